@@ -11,7 +11,8 @@ use crate::kind::Kind;
 /// Fields"); a field of four bytes stays one.
 pub fn fill(kind: Kind, old: u64, v: i128) -> u64
     requires { Passes (line_of kind).check v }
-    ensures bits { let filling = (line_of kind).filling in Fills (mask filling) old (field filling v) result }
+    ensures bits { let filling = (line_of kind).filling in
+        Fills (mask filling) old (field filling v) result }
     ensures word { (line_of kind).width ≡ 4 → old < 2 ^ 32 → result < 2 ^ 32 }
 {
     match kind {

@@ -8,7 +8,8 @@ ghost use Rattle.reloc_fields.specs.Table.{Filling, field, mask};
 
 /// Two numbers that are filled alike are equal.
 pub fn fills_alike()
-    ensures { (ones old bits a b : ℕ) → a < 2 ^ 64 → b < 2 ^ 64 → Fills ones old bits a → Fills ones old bits b → a ≡ b }
+    ensures { (ones old bits a b : ℕ) → a < 2 ^ 64 → b < 2 ^ 64 →
+        Fills ones old bits a → Fills ones old bits b → a ≡ b }
 {}
 
 /// A filled field as a number, for each filling.
