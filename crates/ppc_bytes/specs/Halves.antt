@@ -1,5 +1,5 @@
 -- The parts of a number that instructions hold: #lo, #hi and #ha (ELFv2 ABI, 3.5.2 "Relocation Notations"), and the two
--- parts d0 and d1 of a prefixed instruction's displacement (Power ISA 3.1, 1.6.3 "Instruction Prefix Formats").
+-- parts d0 and d1 of a displacement in a prefixed instruction (Power ISA 3.1, Book I, 1.6 "Instruction Formats").
 use Rattle.std.proofs.Common.{ℕ, ◌≡◌, ◌<◌, ◌%◌, ◌^◌, ◌-◌, ◌+◌, ◌*◌, ◌/◌, ◌↔◌, nat_lt, if◌then◌else◌, negsuc, zero, suc, ◌≤◌, ⊎_elim, ap, ◌∙◌, sym, refl, arith}
 use Rattle.std.specs.Prelude.{ℤ, pos, ◌+ℤ◌, ◌-ℤ◌, ◌*ℤ◌}
 use Rattle.std.proofs.lemmas.Int.{ints}
