@@ -2,23 +2,23 @@
 ghost use Rattle.std.specs.Prelude.{◌≡◌};
 ghost use Rattle.stub_kinds.specs.Stubs.{size_of};
 
-/// How a call comes to its callee. A call keeps r2, the TOC base of the caller, except where the class says that it is saved
-/// at 24(r1) for the caller to restore.
+/// How a call comes to its callee. In r2 stands the TOC base of the caller, except in `NearN` and `EntryN`, which are for callers
+/// without one; where a class saves r2, the caller restores it from 24(r1) after the call (ELFv2 ABI, 3.6.1 "Function Call").
 #[derive(Clone, Copy, Debug, PartialEq, Eq)]
 pub enum Class {
-    /// A callee that keeps r2, or the local entry of one with the caller's TOC base.
+    /// To a callee that leaves r2 alone, or to the local entry of one with the caller's TOC base.
     Same,
-    /// The local entry of a callee with another TOC base: r2 is saved, and set to that base.
+    /// To the local entry of a callee with another TOC base: r2 is saved and set to that base.
     Switch,
-    /// A callee that may change r2: it is saved.
+    /// To a callee that may change r2: r2 is saved.
     Save,
-    /// A caller without a TOC base, and a callee that asks for none.
+    /// From a caller without a TOC base to a callee that asks for none.
     NearN,
-    /// The global entry of a callee with another TOC base: r2 is saved, and r12 is the callee's address.
+    /// To the global entry of a callee with another TOC base: r2 is saved, and r12 gets the entry's address.
     EntrySave,
-    /// The global entry of a callee with the caller's TOC base: r12 is the callee's address.
+    /// To the global entry of a callee with the caller's TOC base: r12 gets the entry's address.
     EntryBare,
-    /// A caller without a TOC base, and the global entry of a callee: r12 is the callee's address.
+    /// From a caller without a TOC base to the global entry of a callee: r12 gets the entry's address.
     EntryN,
 }
 
@@ -32,7 +32,7 @@ pub struct Key {
     pub offset: u64,
 }
 
-/// How many bytes a stub takes. `far` says that the calls of its key, or the stub, may not reach the place by a branch;
+/// How many bytes a stub takes, where its key is near and where it is `far`, that is, where a branch may not reach the place.
 /// `EntrySave`, `EntryBare` and `EntryN` have one form.
 pub fn size(class: Class, far: bool) -> u32
     ensures { result ≡ size_of class far }

@@ -7,7 +7,7 @@ mod laws;
 mod words;
 
 pub use class::{Class, Key, size};
-pub use laws::words_are_within_the_size;
+pub use laws::{sizes_are_few_and_grow, words_are_within_the_size};
 pub use words::stub_words;
 
 #[cfg(test)]
