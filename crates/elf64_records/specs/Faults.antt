@@ -42,6 +42,10 @@ range_fault b i = when (has_bytes b i && nat_lt (length b) (sh_offset b i + sh_s
 unfoldable pub name_fault : List ℕ → ℕ → Option ElfFault
 name_fault b i = when (not (has_zero_from (section_names b) (sh_name b i))) (BadTable (Section i))
 
+-- what is wrong with the sections' ranges, or else with their names
+abbrev pub sections_fault : List ℕ → Option ElfFault
+sections_fault b = first_section b (range_fault b) orelse first_section b (name_fault b)
+
 -- section i is a second symbol table
 unfoldable pub second_fault : List ℕ → ℕ → Option ElfFault
 second_fault b i = when (is_symbol_table b i && not (i == symbol_table b)) (BadTable (Section i))
@@ -64,6 +68,13 @@ symbol_table_fault b =
 unfoldable pub symbol_fault : List ℕ → ℕ → Option ElfFault
 symbol_fault b j = when (not (has_zero_from (symbol_names b) (st_name b j))) (BadTable (Symbol j))
 
+-- what is wrong with the symbol table, or else with the symbols' names
+abbrev pub symbols_fault : List ℕ → Option ElfFault
+symbols_fault b =
+    first_section b (second_fault b)
+    orelse symbol_table_fault b
+    orelse first_from (symbol_fault b) 0 (symbol_count b)
+
 -- record k of section i names no symbol
 unfoldable pub record_fault : List ℕ → ℕ → ℕ → Option ElfFault
 record_fault b i k = when (not (nat_lt (r_symbol b i k) (symbol_count b))) (BadTable (Record i k))
@@ -82,14 +93,10 @@ rela_fault b i =
     orelse (if is_kept b (sh_info b i) then records_fault b i else None)
     else None
 
--- the first fault of a file: of its header, of its sections' ranges and then of their names, of its symbol table, of its symbols,
--- and of its records, section by section
+-- the first fault of a file: of its header, its sections, its symbols, or its records, section by section
 abbrev pub object_fault : List ℕ → Option ElfFault
 object_fault b =
     header_fault b
-    orelse first_section b (range_fault b)
-    orelse first_section b (name_fault b)
-    orelse first_section b (second_fault b)
-    orelse symbol_table_fault b
-    orelse first_from (symbol_fault b) 0 (symbol_count b)
+    orelse sections_fault b
+    orelse symbols_fault b
     orelse first_section b (rela_fault b)

@@ -1,15 +1,19 @@
 -- The symbols of a relocatable file (ELF64, "Symbol Table"). An entry of the symbol table has 24 bytes, and each field is the number
 -- at its offset there.
-use Rattle.std.specs.Prelude.{ℕ, ◌+◌, ◌-◌, ◌*◌, ◌/◌, List, ◌==◌, slice_index, unwrap_or, if◌then◌else◌}
+use Rattle.std.specs.Prelude.{ℕ, ◌+◌, ◌-◌, ◌*◌, ◌/◌, Option, List, ◌==◌, slice_index, unwrap_or, if◌then◌else◌}
 use Rattle.ppc_bytes.specs.Bytes.{number_at}
 use Rattle.elf64_records.specs.First.{when, first_from}
 use Rattle.elf64_records.specs.FileHeader.{e_shnum}
 use Rattle.elf64_records.specs.Sections.{is_symbol_table, sh_offset, sh_size, sh_link, section_bytes}
 use Rattle.elf64_records.specs.Names.{name_at}
 
--- the number of the section that holds the symbols, or 0 where there is none
+-- section i, where it is a symbol table
+unfoldable pub symbol_table_at : List ℕ → ℕ → Option ℕ
+symbol_table_at b i = when (is_symbol_table b i) i
+
+-- the number of the section that holds the symbols, the first symbol table, or 0 where there is none
 abbrev pub symbol_table : List ℕ → ℕ
-symbol_table b = unwrap_or (first_from (λ i. when (is_symbol_table b i) i) 1 (e_shnum b - 1)) 0
+symbol_table b = unwrap_or (first_from (symbol_table_at b) 1 (e_shnum b - 1)) 0
 
 -- a file without a symbol table has no symbols
 abbrev pub symbol_count : List ℕ → ℕ

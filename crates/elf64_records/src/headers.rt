@@ -3,7 +3,7 @@ ghost use Rattle.std.specs.Prelude.{◌≡◌, ◌<◌, ◌≤◌, ◌+◌, ◌*
 ghost use Rattle.elf64_records.specs.First.{when, Refuses};
 ghost use Rattle.elf64_records.specs.FileHeader.{e_shoff, e_shnum, e_shstrndx};
 ghost use Rattle.elf64_records.specs.Sections.{sh_name, sh_type, sh_flags, sh_offset, sh_size, sh_link, sh_info, sh_addralign, sh_entsize, type_of, has_bytes, is_kept};
-ghost use Rattle.elf64_records.specs.Faults.{header_fault, kind_fault};
+ghost use Rattle.elf64_records.specs.Faults.{header_fault, kind_fault, has_entries};
 
 use crate::fault::{ElfFault, Place};
 use ppc_bytes::{half_at, has_magic, is_ppc64_le, long_at, word_at};
@@ -162,6 +162,14 @@ impl<'a> Headers<'a> {
         ensures { result ≡ sh_entsize self.now.bytes.now i }
     {
         long_at(self.bytes, self.start + 64 * i as usize + 56)
+    }
+
+    /// Whether a section is a table of entries of 24 bytes.
+    pub fn has_entries(&self, i: u32) -> bool
+        requires { i < self.now.count }
+        ensures { result ≡ has_entries self.now.bytes.now i }
+    {
+        self.entry_size(i) == 24 && self.size(i).is_multiple_of(24)
     }
 }
 

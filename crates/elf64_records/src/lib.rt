@@ -6,7 +6,13 @@
 mod fault;
 mod headers;
 mod names;
+mod records;
 mod sections;
+mod symbols;
+mod view;
 
 pub use fault::{ElfFault, Place};
+pub use records::Rela;
 pub use sections::SectionView;
+pub use symbols::SymbolView;
+pub use view::ObjectView;

@@ -1,8 +1,8 @@
 // Sections: their bytes and their names.
-ghost use Rattle.std.specs.Prelude.{◌≡◌, ◌<◌, ◌≤◌, ◌+◌, IfOk, IsTrue, None, length, if◌then◌else◌};
-ghost use Rattle.elf64_records.specs.First.{Refuses, ◌orelse◌};
+ghost use Rattle.std.specs.Prelude.{◌≡◌, ◌<◌, ◌≤◌, ◌+◌, ◌*◌, ◌/◌, IfOk, true, None, length, if◌then◌else◌};
+ghost use Rattle.elf64_records.specs.First.{Refuses};
 ghost use Rattle.elf64_records.specs.Sections.{sh_offset, sh_size, has_bytes, section_bytes, section_names, section_of};
-ghost use Rattle.elf64_records.specs.Faults.{range_fault, name_fault, first_section};
+ghost use Rattle.elf64_records.specs.Faults.{range_fault, name_fault, sections_fault, first_section};
 ghost use Rattle.elf64_records.specs.Names.{IsZeroEnd};
 
 use crate::fault::{ElfFault, Place};
@@ -35,15 +35,14 @@ pub struct SectionView<'a> {
 pub struct Sections<'a> {
     pub headers: Headers<'a>,
     pub names: &'a [u8],
-    ghost ranges: { first_section headers.bytes.now (range_fault headers.bytes.now) ≡ None },
-    ghost ended: { first_section headers.bytes.now (name_fault headers.bytes.now) ≡ None },
+    ghost whole: { sections_fault headers.bytes.now ≡ None },
     ghost names_is: { names.now ≡ section_names headers.bytes.now },
 }
 
 impl<'a> Sections<'a> {
     /// The sections, or the first fault of their ranges, or else of their names.
     pub fn read(headers: Headers<'a>) -> Result<Sections<'a>, ElfFault>
-        ensures fault { let b = headers.entry.bytes.now in Refuses result (first_section b (range_fault b) orelse first_section b (name_fault b)) }
+        ensures fault { Refuses result (sections_fault headers.entry.bytes.now) }
         ensures bytes { IfOk result (λ s. s.headers.bytes.now ≡ headers.entry.bytes.now) }
     {
         check_ranges(&headers)?;
@@ -58,6 +57,56 @@ impl<'a> Sections<'a> {
         ensures { result.now ≡ section_bytes self.now.headers.bytes.now i }
     {
         bytes_of(&self.headers, i)
+    }
+
+    /// Section `i` of the file.
+    pub fn section(&self, i: u32) -> SectionView<'a>
+        requires { i < self.now.headers.count }
+        ensures name { result.name.now ≡ (section_of self.now.headers.bytes.now i).name }
+        ensures kind { result.kind ≡ (section_of self.now.headers.bytes.now i).kind }
+        ensures flags { result.flags ≡ (section_of self.now.headers.bytes.now i).flags }
+        ensures size { result.size ≡ (section_of self.now.headers.bytes.now i).size }
+        ensures link { result.link ≡ (section_of self.now.headers.bytes.now i).link }
+        ensures info { result.info ≡ (section_of self.now.headers.bytes.now i).info }
+        ensures align { result.align ≡ (section_of self.now.headers.bytes.now i).align }
+        ensures bytes { result.bytes.now ≡ (section_of self.now.headers.bytes.now i).bytes }
+    {
+        SectionView {
+            name: self.name(i),
+            kind: self.headers.stated_kind(i),
+            flags: self.headers.flags(i),
+            size: self.headers.size(i),
+            link: self.headers.link(i),
+            info: self.headers.info(i),
+            align: self.headers.align(i),
+            bytes: self.bytes(i),
+        }
+    }
+
+    /// The name of a section, which is empty for section 0.
+    fn name(&self, i: u32) -> &'a [u8]
+        requires { i < self.now.headers.count }
+        ensures { result.now ≡ (section_of self.now.headers.bytes.now i).name }
+    {
+        if i == 0 {
+            &[]
+        } else {
+            name_from(self.names, self.headers.name(i) as usize)
+        }
+    }
+
+    /// Where the entries of a table begin, and how many of 24 bytes there are.
+    pub fn entries(&self, i: u32) -> (usize, u32)
+        requires number { i < self.now.headers.count }
+        requires stored { has_bytes self.now.headers.bytes.now i ≡ true }
+        ensures start { result.0 ≡ sh_offset self.now.headers.bytes.now i }
+        ensures count { result.1 ≡ sh_size self.now.headers.bytes.now i / 24 }
+        ensures within { result.0 + 24 * result.1 ≤ length self.now.headers.bytes.now }
+    {
+        (
+            self.headers.offset(i) as usize,
+            (self.headers.size(i) / 24) as u32,
+        )
     }
 }
 
