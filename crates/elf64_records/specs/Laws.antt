@@ -1,11 +1,7 @@
 -- A walk over numbers that looks for the first fault.
-use Rattle.std.proofs.Common.{◌≡◌, ℕ, zero, suc, ◌+◌, ◌-◌, ◌<◌, ◌≤◌, true, inl, inr, List, length, Option, Some, None, sym, ap, ◌∙◌, refl, subst, arith}
+use Rattle.std.proofs.Common.{◌≡◌, ℕ, zero, suc, ◌+◌, ◌-◌, ◌<◌, ◌≤◌, inl, inr, Option, Some, None, sym, ap, ◌∙◌, refl, arith}
 use Rattle.std.proofs.lemmas.Bool.{cases_lt}
-use Rattle.std.proofs.lemmas.Bool.Decides.{nat_tests}
 use Rattle.elf64_records.specs.First.{◌orelse◌, first_from}
-use Rattle.elf64_records.specs.FileHeader.{e_shnum}
-use Rattle.elf64_records.specs.Sections.{has_bytes, sh_offset, sh_size}
-use Rattle.elf64_records.specs.Faults.{first_section, range_fault}
 
 -- where there is no first of two, both pass
 pub both_none : {R : Type 0} (o p : Option R) → o orelse p ≡ None → (o ≡ None) × (p ≡ None)
@@ -17,6 +13,12 @@ module _ {R : Type 0} (f : ℕ → Option R) where
   pub walk_step : (i n : ℕ) → i < n → first_from f i (n - i) ≡ f i orelse first_from f (i + 1) (n - (i + 1))
   walk_step i n within =
       let left : n - i ≡ suc (n - (i + 1)) = omega arith in
+      ap (first_from f i) left
+
+  -- nothing is left at the end
+  pub walk_end : (i n : ℕ) → n ≤ i → first_from f i (n - i) ≡ None
+  walk_end i n over =
+      let left : n - i ≡ 0 = omega arith in
       ap (first_from f i) left
 
   -- a number passes: what is left is the rest
@@ -38,11 +40,3 @@ module _ {R : Type 0} (f : ℕ → Option R) where
         | inl less ↦ walk_none (start + 1) count k both.1 (omega arith) (omega arith)
         | inr most ↦ (let same : start ≡ k = omega arith in ap f (sym same) ∙ both.0)
       ]
-
--- a section of a file whose ranges are whole lies in the file
-pub section_in_file : (b : List ℕ) (i : ℕ) → first_section b (range_fault b) ≡ None → i < e_shnum b → has_bytes b i ≡ true → sh_offset b i + sh_size b i ≤ length b
-unfolding range_fault
-section_in_file b i whole within stored =
-    let above : 1 ≤ i = grind (arith, nat_tests) in
-    let passes : range_fault b i ≡ None = walk_none (range_fault b) 1 (e_shnum b - 1) i whole above (omega arith) in
-    grind (arith, nat_tests, passes)

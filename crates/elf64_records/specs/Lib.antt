@@ -6,3 +6,4 @@ pub mod Symbols
 pub mod Records
 pub mod Faults
 pub mod Laws
+pub mod Whole

@@ -1,5 +1,5 @@
 // Relocation records with addends.
-ghost use Rattle.std.specs.Prelude.{◌≡◌, ◌<◌, ◌≤◌, ◌+◌, ◌/◌, ◌%◌, ◌^◌, true, length};
+ghost use Rattle.std.specs.Prelude.{◌≡◌, ◌<◌, ◌≤◌, ◌+◌, ◌*◌, ◌/◌, ◌%◌, ◌^◌, true, length};
 ghost use Rattle.std.specs.Int.{cast_signed, w64};
 ghost use Rattle.ppc_bytes.specs.Bytes.{number_at};
 ghost use Rattle.elf64_records.specs.First.{Refuses, first_from};
@@ -26,7 +26,6 @@ pub struct Rela {
 }
 
 /// The record whose 24 bytes begin at a place.
-#[tactic(auto, unfolding(crate::specs::Records::r_offset, crate::specs::Records::r_info, crate::specs::Records::r_type, crate::specs::Records::r_symbol, crate::specs::Records::r_addend))]
 pub fn record_at(bytes: &[u8], place: usize) -> Rela
     requires { place + 24 ≤ length bytes.now }
     ensures offset { result.offset ≡ number_at 8 bytes.now place }
@@ -56,7 +55,19 @@ fn check_record(symbols: &Symbols, i: u32, place: usize, k: u32) -> Result<(), E
     Ok(())
 }
 
-#[tactic(auto, using(crate::specs::Laws::walk_step), unfolding(crate::specs::Faults::records_fault))]
+#[tactic(auto, using(crate::specs::Laws::walk_step, crate::specs::Laws::walk_end))]
+fn check_each(symbols: &Symbols, i: u32, start: usize, count: u32) -> Result<(), ElfFault>
+    requires start { start ≡ sh_offset symbols.now.sections.headers.bytes.now i }
+    requires within { start + 24 * count ≤ length symbols.now.sections.headers.bytes.now }
+    ensures { Refuses result (first_from (record_fault symbols.now.sections.headers.bytes.now i) 0 count) }
+{
+    for k in 0..count {
+        check_record(symbols, i, start + 24 * k as usize, k)?;
+    }
+    Ok(())
+}
+
+#[tactic(auto, unfolding(crate::specs::Faults::records_fault))]
 fn check_records(symbols: &Symbols, i: u32) -> Result<(), ElfFault>
     requires number { i < symbols.now.sections.headers.count }
     requires kind { is_rela symbols.now.sections.headers.bytes.now i ≡ true }
@@ -67,10 +78,7 @@ fn check_records(symbols: &Symbols, i: u32) -> Result<(), ElfFault>
         return Err(ElfFault::BadTable(Place::Section(i)));
     }
     let (start, count) = symbols.sections.entries(i);
-    for k in 0..count {
-        check_record(symbols, i, start + 24 * k as usize, k)?;
-    }
-    Ok(())
+    check_each(symbols, i, start, count)
 }
 
 #[tactic(auto, unfolding(crate::specs::Faults::rela_fault))]
@@ -94,7 +102,7 @@ fn check_rela(symbols: &Symbols, i: u32) -> Result<(), ElfFault>
 }
 
 /// The first fault of the records of kept sections.
-#[tactic(auto, using(crate::specs::Laws::walk_step))]
+#[tactic(auto, using(crate::specs::Laws::walk_step, crate::specs::Laws::walk_end))]
 pub fn check_relas(symbols: &Symbols) -> Result<(), ElfFault>
     ensures { let b = symbols.now.sections.headers.bytes.now in Refuses result (first_section b (rela_fault b)) }
 {

@@ -84,6 +84,7 @@ impl<'a> Sections<'a> {
     }
 
     /// The name of a section, which is empty for section 0.
+    #[tactic(auto, using(crate::specs::Whole::name_in_table))]
     fn name(&self, i: u32) -> &'a [u8]
         requires { i < self.now.headers.count }
         ensures { result.now ≡ (section_of self.now.headers.bytes.now i).name }
@@ -103,23 +104,33 @@ impl<'a> Sections<'a> {
         ensures count { result.1 ≡ sh_size self.now.headers.bytes.now i / 24 }
         ensures within { result.0 + 24 * result.1 ≤ length self.now.headers.bytes.now }
     {
-        (
-            self.headers.offset(i) as usize,
-            (self.headers.size(i) / 24) as u32,
-        )
+        let (start, size) = range_of(&self.headers, i);
+        (start, (size / 24) as u32)
     }
 }
 
+/// Where a section's bytes begin, and how many there are, where those of each section lie in the file.
+#[tactic(auto, using(crate::specs::Whole::section_in_file))]
+fn range_of(headers: &Headers, i: u32) -> (usize, usize)
+    requires number { i < headers.now.count }
+    requires ranges { first_section headers.now.bytes.now (range_fault headers.now.bytes.now) ≡ None }
+    requires stored { has_bytes headers.now.bytes.now i ≡ true }
+    ensures start { result.0 ≡ sh_offset headers.now.bytes.now i }
+    ensures size { result.1 ≡ sh_size headers.now.bytes.now i }
+    ensures within { result.0 + result.1 ≤ length headers.now.bytes.now }
+{
+    (headers.offset(i) as usize, headers.size(i) as usize)
+}
+
 /// The bytes of a section, where those of each section lie in the file.
-#[tactic(auto, using(crate::specs::Laws::section_in_file))]
 fn bytes_of<'a>(headers: &Headers<'a>, i: u32) -> &'a [u8]
     requires number { i < headers.now.count }
     requires ranges { first_section headers.now.bytes.now (range_fault headers.now.bytes.now) ≡ None }
     ensures { result.now ≡ section_bytes headers.now.bytes.now i }
 {
     if headers.has_bytes(i) {
-        let start = headers.offset(i) as usize;
-        &headers.bytes[start..start + headers.size(i) as usize]
+        let (start, size) = range_of(headers, i);
+        &headers.bytes[start..start + size]
     } else {
         &[]
     }
@@ -138,7 +149,7 @@ fn check_range(headers: &Headers, i: u32) -> Result<(), ElfFault>
     Ok(())
 }
 
-#[tactic(auto, using(crate::specs::Laws::walk_step))]
+#[tactic(auto, using(crate::specs::Laws::walk_step, crate::specs::Laws::walk_end))]
 fn check_ranges(headers: &Headers) -> Result<(), ElfFault>
     ensures { let b = headers.now.bytes.now in Refuses result (first_section b (range_fault b)) }
 {
@@ -161,7 +172,7 @@ fn check_name(headers: &Headers, end: usize, i: u32) -> Result<(), ElfFault>
     }
 }
 
-#[tactic(auto, using(crate::specs::Laws::walk_step))]
+#[tactic(auto, using(crate::specs::Laws::walk_step, crate::specs::Laws::walk_end))]
 fn check_names(headers: &Headers, names: &[u8]) -> Result<(), ElfFault>
     requires { names.now ≡ section_names headers.now.bytes.now }
     ensures { let b = headers.now.bytes.now in Refuses result (first_section b (name_fault b)) }

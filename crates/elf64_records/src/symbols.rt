@@ -1,9 +1,9 @@
 // The symbol table.
-ghost use Rattle.std.specs.Prelude.{◌≡◌, ◌≢◌, ◌<◌, ◌≤◌, ◌+◌, ◌*◌, IfOk, None, true, length};
+ghost use Rattle.std.specs.Prelude.{◌≡◌, ◌≢◌, ◌<◌, ◌≤◌, ◌+◌, ◌*◌, IfOk, IfSome, None, true, length};
 ghost use Rattle.elf64_records.specs.First.{Refuses, first_from, ◌orelse◌};
 ghost use Rattle.elf64_records.specs.Sections.{is_symbol_table, sh_offset, sh_link};
 ghost use Rattle.elf64_records.specs.Names.{IsZeroEnd, name_at};
-ghost use Rattle.elf64_records.specs.Symbols.{symbol_table, symbol_count, symbol_place, symbol_names, symbol_of};
+ghost use Rattle.elf64_records.specs.Symbols.{symbol_table_at, symbol_table, symbol_count, symbol_place, symbol_names, symbol_of, st_name};
 ghost use Rattle.elf64_records.specs.Faults.{first_section, second_fault, symbol_table_fault, symbol_fault, symbols_fault};
 
 use crate::fault::{ElfFault, Place};
@@ -77,7 +77,7 @@ impl<'a> Symbols<'a> {
     }
 
     /// Symbol `j` of the file.
-    #[tactic(auto, unfolding(crate::specs::Symbols::st_name, crate::specs::Symbols::st_info, crate::specs::Symbols::st_other, crate::specs::Symbols::st_shndx, crate::specs::Symbols::st_value, crate::specs::Symbols::st_size))]
+    #[tactic(auto, unfolding(crate::specs::Symbols::st_info, crate::specs::Symbols::st_other, crate::specs::Symbols::st_shndx, crate::specs::Symbols::st_value, crate::specs::Symbols::st_size))]
     pub fn symbol(&self, j: u32) -> SymbolView<'a>
         requires { j < self.now.count }
         ensures name { result.name.now ≡ (symbol_of self.now.sections.headers.bytes.now j).name }
@@ -90,7 +90,7 @@ impl<'a> Symbols<'a> {
         let bytes = self.sections.headers.bytes;
         let place = self.start + 24 * j as usize;
         SymbolView {
-            name: name_from(self.names, word_at(bytes, place) as usize),
+            name: self.name(j),
             info: bytes[place + 4],
             other: bytes[place + 5],
             shndx: half_at(bytes, place + 6),
@@ -98,18 +98,46 @@ impl<'a> Symbols<'a> {
             size: long_at(bytes, place + 16),
         }
     }
+
+    /// The name of a symbol.
+    #[tactic(auto, using(crate::specs::Whole::symbol_name_in_table))]
+    fn name(&self, j: u32) -> &'a [u8]
+        requires { j < self.now.count }
+        ensures { result.now ≡ (symbol_of self.now.sections.headers.bytes.now j).name }
+    {
+        name_from(self.names, self.name_place(j))
+    }
+
+    /// The place of a symbol's name in the table of the symbols' names.
+    #[tactic(auto, unfolding(crate::specs::Symbols::st_name))]
+    fn name_place(&self, j: u32) -> usize
+        requires { j < self.now.count }
+        ensures { result ≡ st_name self.now.sections.headers.bytes.now j }
+    {
+        word_at(self.sections.headers.bytes, self.start + 24 * j as usize) as usize
+    }
+}
+
+/// A section's number, where it is a symbol table.
+#[tactic(auto, unfolding(crate::specs::Symbols::symbol_table_at))]
+fn symbol_table_at(headers: &Headers, i: u32) -> Option<u32>
+    requires { i < headers.now.count }
+    ensures number { result ≡ symbol_table_at headers.now.bytes.now i }
+    ensures kind { IfSome result (λ n. (n < headers.now.count) × (is_symbol_table headers.now.bytes.now n ≡ true)) }
+{
+    if headers.kind(i) == 2 { Some(i) } else { None }
 }
 
 /// The number of the first symbol table, or 0 where there is none.
-#[tactic(auto, using(crate::specs::Laws::walk_step), unfolding(crate::specs::Symbols::symbol_table_at))]
+#[tactic(auto, using(crate::specs::Laws::walk_step, crate::specs::Laws::walk_end))]
 fn symbol_table(headers: &Headers) -> u32
     ensures number { result ≡ symbol_table headers.now.bytes.now }
     ensures within { result < headers.now.count }
     ensures kind { result ≢ 0 → is_symbol_table headers.now.bytes.now result ≡ true }
 {
     for i in 1..headers.count {
-        if headers.kind(i) == 2 {
-            return i;
+        if let Some(table) = symbol_table_at(headers, i) {
+            return table;
         }
     }
     0
@@ -127,7 +155,7 @@ fn check_other(headers: &Headers, table: u32, i: u32) -> Result<(), ElfFault>
     Ok(())
 }
 
-#[tactic(auto, using(crate::specs::Laws::walk_step))]
+#[tactic(auto, using(crate::specs::Laws::walk_step, crate::specs::Laws::walk_end))]
 fn check_second(headers: &Headers, table: u32) -> Result<(), ElfFault>
     requires { table ≡ symbol_table headers.now.bytes.now }
     ensures { Refuses result (first_section headers.now.bytes.now (second_fault headers.now.bytes.now)) }
@@ -168,7 +196,7 @@ fn check_name(bytes: &[u8], place: usize, end: usize, j: u32) -> Result<(), ElfF
     }
 }
 
-#[tactic(auto, using(crate::specs::Laws::walk_step))]
+#[tactic(auto, using(crate::specs::Laws::walk_step, crate::specs::Laws::walk_end))]
 fn check_names(bytes: &[u8], start: usize, count: u32, names: &[u8]) -> Result<(), ElfFault>
     requires start { start ≡ sh_offset bytes.now (symbol_table bytes.now) }
     requires count { count ≡ symbol_count bytes.now }

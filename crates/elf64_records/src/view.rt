@@ -91,6 +91,7 @@ impl<'a> ObjectView<'a> {
 
     /// The number of records in section `i`: 0 where it holds no relocation records with addends, or those of a section that
     /// isn't kept.
+    #[tactic(auto, using(crate::specs::Whole::target_in_range))]
     pub fn record_count(&self, i: u32) -> u32
         requires { i < e_shnum self.now }
         ensures { result ≡ record_count self.now i }
@@ -104,6 +105,7 @@ impl<'a> ObjectView<'a> {
     }
 
     /// Record `k` of section `i`.
+    #[tactic(auto, using(crate::specs::Whole::symbol_in_range), unfolding(crate::specs::Records::r_offset, crate::specs::Records::r_info, crate::specs::Records::r_type, crate::specs::Records::r_symbol, crate::specs::Records::r_addend))]
     pub fn rela(&self, i: u32, k: u32) -> Rela
         requires section { i < e_shnum self.now }
         requires record { k < record_count self.now i }

@@ -1,7 +1,7 @@
 use Rattle.std.proofs.Common.{◌≡◌, ◌-◌}
 use Rattle.elf64_records.specs.First.{first_from}
 use Rattle.elf64_records.specs.Faults.{record_fault}
-use Rattle.elf64_records.proofs.records.check_records.Given as goal
+use Rattle.elf64_records.proofs.records.check_each.Given as goal
 
 -- what is left refuses as all does
 abbrev pub invariant-loop-k : goal.invariant-loop-k
