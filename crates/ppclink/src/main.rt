@@ -3,6 +3,7 @@
 
 mod fetching;
 mod lines;
+mod perform;
 mod words;
 
 fn main(rt: HostRuntime) {}
