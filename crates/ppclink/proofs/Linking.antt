@@ -14,7 +14,7 @@ use Rattle.ppclink.specs.declared.perform.Answer.{Answer}
 use Rattle.ppclink.specs.declared.perform.Answer.TheVariants.{Printed, Written, Unwritten, NoMemory}
 use Rattle.link_engine.specs.Link.{file_refusal, first_refusal, image_of, has_magic}
 use Rattle.ppc_outside.specs.Outside.{Files, Replaced}
-use Rattle.ppclink.specs.Requests.{Request, texts, link_to}
+use Rattle.ppclink.specs.Requests.{Request, texts, link_to, out_of}
 use Rattle.ppclink.specs.Lines.{refusal_line, unread_line, IsOfFile}
 use Rattle.ppclink.specs.Outcomes.{Outcome, link_outcome, outcome_in, settled, or_missing, printed, written, outcome_of}
 use Rattle.ppclink.specs.Fetching.{HasRead, HaveRead, ManyCause, file_limit}
@@ -68,11 +68,11 @@ kept None (Some new) out image h = absurd h
 kept (Some old) None out image h = absurd h
 kept (Some old) (Some new) out image h = h
 
-pub write_causes : (told told' : Option Files) (f f' w w' : ℕ) (out image : List ℕ) (request : Request) (a : Answer) → Comes told request (written out image) → AnswersReplace told told' out image f f' w w' a → Causes (outside told f w) (outside told' f' w') (Some request) a
-write_causes told told' f f' w w' out image request Written is h = record { faults = h.0; write_faults = h.1; image = (out, image, is, h.2) }
-write_causes told told' f f' w w' out image request Unwritten is h = record { faults = h.0; write_faults = h.1; image = (out, image, is, h.2) }
-write_causes told told' f f' w w' out image request NoMemory is h = (omega (arith, h.0), h.1, kept told told' out image h.2)
-write_causes told told' f f' w w' out image request (Printed status text) is h = absurd h
+pub write_causes : (told told' : Option Files) (f f' w w' : ℕ) (out image : List ℕ) (request : Request) (a : Answer) → out ≡ out_of request → Comes told request (written out image) → AnswersReplace told told' out image f f' w w' a → Causes (outside told f w) (outside told' f' w') (Some request) a
+write_causes told told' f f' w w' out image request Written named is h = record { faults = h.0; write_faults = h.1; image = (image, subst (λ o. Comes told request (written o image)) named is, subst (λ o. Replaced told told' o image (Ok tt)) named h.2) }
+write_causes told told' f f' w w' out image request Unwritten named is h = record { faults = h.0; write_faults = h.1; image = (image, subst (λ o. Comes told request (written o image)) named is, subst (λ o. Replaced told told' o image (Err Failed)) named h.2) }
+write_causes told told' f f' w w' out image request NoMemory named is h = (omega (arith, h.0), h.1, kept told told' out image h.2)
+write_causes told told' f f' w w' out image request (Printed status text) named is h = absurd h
 
 pub same_files : (told : Option Files) → SameFiles told told
 same_files None = tt

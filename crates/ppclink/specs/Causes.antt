@@ -5,7 +5,7 @@ use Rattle.ppc_outside.specs.declared.outside.OutsideError.{OutsideError}
 use Rattle.ppc_outside.specs.declared.outside.OutsideError.TheVariants.{Failed, Memory}
 use Rattle.ppclink.specs.declared.perform.Answer.{Answer}
 use Rattle.ppclink.specs.declared.perform.Answer.TheVariants.{Printed, Written, Unwritten, NoMemory}
-use Rattle.ppclink.specs.Requests.{Request, names_of}
+use Rattle.ppclink.specs.Requests.{Request, names_of, out_of}
 use Rattle.ppclink.specs.Lines.{usage_line, unread_line}
 use Rattle.ppclink.specs.Fetching.{IsFirstMissing}
 use Rattle.ppclink.specs.Outcomes.{Outcome, printed, written, outcome_of, outcome_in}
@@ -44,7 +44,7 @@ pub record HasFetched (old new : Outside) : Type 0 where
 
 -- why a text is printed
 abbrev pub PrintCause : Outside → Outside → Option Request → ℕ → List ℕ → Type 0
-PrintCause old new None status text = (status ≡ 2) × (text ≡ usage_line) × (new.faults ≡ old.faults)
+PrintCause old new None status text = (status ≡ 2) × (text ≡ usage_line) × (new ≡ old)
 PrintCause old new (Some request) status text =
     ((status ≡ 3) × ((i : ℕ) × (text ≡ unread_line (slice_index_or (names_of request) i [])) × Unread old new (names_of request) i))
     ⊎ ((status ≡ 1) × (new.faults ≡ old.faults) × Comes old.told request (printed status text))
@@ -53,7 +53,7 @@ PrintCause old new (Some request) status text =
 pub record Writes (old new : Outside) (request : Request) (answer : Result (Unit {0}) OutsideError) : Type 0 where
   pub faults : new.faults ≡ old.faults
   pub write_faults : FaultCause old.write_faults new.write_faults answer
-  pub image : (out image : List ℕ) × Comes old.told request (written out image) × Replaced old.told new.told out image answer
+  pub image : (image : List ℕ) × Comes old.told request (written (out_of request) image) × Replaced old.told new.told (out_of request) image answer
 
 -- why each answer comes
 abbrev pub Causes : Outside → Outside → Option Request → Answer → Type 0
@@ -62,7 +62,8 @@ Causes old new None Written = ⊥
 Causes old new (Some request) Written = Writes old new request (Ok tt)
 Causes old new None Unwritten = ⊥
 Causes old new (Some request) Unwritten = Writes old new request (Err Failed)
-Causes old new request NoMemory =
+Causes old new None NoMemory = new ≡ old
+Causes old new (Some request) NoMemory =
     (old.faults ≤ new.faults) × (new.write_faults ≡ old.write_faults) × SameFiles old.told new.told
 
 -- why a replace is answered so

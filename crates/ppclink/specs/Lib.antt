@@ -3,3 +3,4 @@ pub mod Lines
 pub mod Outcomes
 pub mod Fetching
 pub mod Causes
+pub mod Statuses

@@ -29,6 +29,10 @@ request_of words = None
 abbrev pub names_of : Request → List (List ℕ)
 names_of (link_to out files) = files
 
+-- the file that a request writes
+abbrev pub out_of : Request → List ℕ
+out_of (link_to out files) = out
+
 -- what a command that was read asks for
 abbrev pub meaning : Command → Request
 meaning (Link out files) = link_to out.now (texts files.now)
