@@ -4,6 +4,8 @@
 mod fetching;
 mod lines;
 mod perform;
+#[cfg(test)]
+mod tests;
 mod top;
 mod words;
 
