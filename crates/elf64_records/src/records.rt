@@ -13,7 +13,7 @@ use crate::symbols::Symbols;
 use ppc_bytes::{long_at, word_at};
 
 /// One relocation record.
-#[derive(Clone, Copy, Debug)]
+#[derive(Clone, Copy, Debug, PartialEq, Eq)]
 pub struct Rela {
     /// The offset of the field in its section (r_offset).
     pub offset: u64,
