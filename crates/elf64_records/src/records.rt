@@ -1,5 +1,5 @@
 // Relocation records with addends.
-ghost use Rattle.std.specs.Prelude.{◌≡◌, ◌<◌, ◌≤◌, ◌+◌, ◌*◌, ◌/◌, ◌%◌, ◌^◌, true, length};
+ghost use Rattle.std.specs.Prelude.{◌≡◌, ◌<◌, ◌≤◌, ◌+◌, ◌*◌, ◌/◌, ◌%◌, ◌^◌, IsTrue, length};
 ghost use Rattle.std.specs.Int.{cast_signed, w64};
 ghost use Rattle.ppc_bytes.specs.Bytes.{number_at};
 ghost use Rattle.elf64_records.specs.First.{Refuses, first_from};
@@ -70,7 +70,7 @@ fn check_each(symbols: &Symbols, i: u32, start: usize, count: u32) -> Result<(),
 #[tactic(auto, unfolding(crate::specs::Faults::records_fault))]
 fn check_records(symbols: &Symbols, i: u32) -> Result<(), ElfFault>
     requires number { i < symbols.now.sections.headers.count }
-    requires kind { is_rela symbols.now.sections.headers.bytes.now i ≡ true }
+    requires kind { IsTrue (is_rela symbols.now.sections.headers.bytes.now i) }
     ensures { Refuses result (records_fault symbols.now.sections.headers.bytes.now i) }
 {
     let headers = symbols.sections.headers;

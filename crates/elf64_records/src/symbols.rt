@@ -1,5 +1,5 @@
 // The symbol table.
-ghost use Rattle.std.specs.Prelude.{◌≡◌, ◌≢◌, ◌<◌, ◌≤◌, ◌+◌, ◌*◌, IfOk, IfSome, None, true, length};
+ghost use Rattle.std.specs.Prelude.{◌≡◌, ◌≢◌, ◌<◌, ◌≤◌, ◌+◌, ◌*◌, IfOk, IfSome, IsTrue, None, length};
 ghost use Rattle.elf64_records.specs.First.{Refuses, first_from, ◌orelse◌};
 ghost use Rattle.elf64_records.specs.Sections.{is_symbol_table, sh_offset, sh_link};
 ghost use Rattle.elf64_records.specs.Names.{IsZeroEnd, name_at};
@@ -123,7 +123,7 @@ impl<'a> Symbols<'a> {
 fn symbol_table_at(headers: &Headers, i: u32) -> Option<u32>
     requires { i < headers.now.count }
     ensures number { result ≡ symbol_table_at headers.now.bytes.now i }
-    ensures kind { IfSome result (λ n. (n < headers.now.count) × (is_symbol_table headers.now.bytes.now n ≡ true)) }
+    ensures kind { IfSome result (λ n. (n < headers.now.count) × IsTrue (is_symbol_table headers.now.bytes.now n)) }
 {
     if headers.kind(i) == 2 { Some(i) } else { None }
 }
@@ -133,7 +133,7 @@ fn symbol_table_at(headers: &Headers, i: u32) -> Option<u32>
 fn symbol_table(headers: &Headers) -> u32
     ensures number { result ≡ symbol_table headers.now.bytes.now }
     ensures within { result < headers.now.count }
-    ensures kind { result ≢ 0 → is_symbol_table headers.now.bytes.now result ≡ true }
+    ensures kind { result ≢ 0 → IsTrue (is_symbol_table headers.now.bytes.now result) }
 {
     for i in 1..headers.count {
         if let Some(table) = symbol_table_at(headers, i) {

@@ -1,5 +1,5 @@
 // A relocatable file as a whole.
-ghost use Rattle.std.specs.Prelude.{◌≡◌, ◌<◌, ◌≤◌, IfOk, None, length};
+ghost use Rattle.std.specs.Prelude.{◌≡◌, ◌<◌, ◌≤◌, IfOk, IsTrue, None, length};
 ghost use Rattle.elf64_records.specs.First.{Refuses};
 ghost use Rattle.elf64_records.specs.FileHeader.{e_shnum};
 ghost use Rattle.elf64_records.specs.Sections.{has_bytes, section_of};
@@ -65,6 +65,7 @@ impl<'a> ObjectView<'a> {
         ensures info { result.info ≡ (section_of self.now i).info }
         ensures align { result.align ≡ (section_of self.now i).align }
         ensures bytes { result.bytes.now ≡ (section_of self.now i).bytes }
+        ensures length { IsTrue (has_bytes self.now i) → length result.bytes.now ≡ result.size }
     {
         self.symbols.sections.section(i)
     }
