@@ -1,5 +1,5 @@
 // Sections: their bytes and their names.
-ghost use Rattle.std.specs.Prelude.{◌≡◌, ◌<◌, ◌≤◌, ◌+◌, ◌*◌, ◌/◌, IfOk, IsTrue, None, length, if◌then◌else◌};
+ghost use Rattle.std.specs.Prelude.{◌≡◌, ◌<◌, ◌≤◌, ◌+◌, ◌*◌, ◌/◌, IfOk, IsTrue, None, length};
 ghost use Rattle.elf64_records.specs.First.{Refuses};
 ghost use Rattle.elf64_records.specs.Sections.{sh_offset, sh_size, has_bytes, section_bytes, section_names, section_of};
 ghost use Rattle.elf64_records.specs.Faults.{range_fault, name_fault, sections_fault, first_section};

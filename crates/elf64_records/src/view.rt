@@ -8,7 +8,7 @@ ghost use Rattle.elf64_records.specs.Records.{record_count, rela_of};
 ghost use Rattle.elf64_records.specs.Faults.{object_fault};
 
 use crate::fault::ElfFault;
-use crate::headers::Headers;
+use crate::headers::{Headers, SHT_RELA};
 use crate::records::{Rela, check_relas, record_at};
 use crate::sections::{SectionView, Sections};
 use crate::symbols::{SymbolView, Symbols};
@@ -98,7 +98,7 @@ impl<'a> ObjectView<'a> {
         ensures { result ≡ record_count self.now i }
     {
         let headers = self.symbols.sections.headers;
-        if headers.kind(i) == 4 && headers.is_kept(headers.info(i)) {
+        if headers.kind(i) == SHT_RELA && headers.is_kept(headers.info(i)) {
             self.symbols.sections.entries(i).1
         } else {
             0
