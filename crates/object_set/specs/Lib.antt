@@ -1,0 +1,5 @@
+pub mod Files
+pub mod Sections
+pub mod Symbols
+pub mod Refusals
+pub mod Laws
