@@ -2,4 +2,5 @@ pub mod Files
 pub mod Sections
 pub mod Symbols
 pub mod Refusals
+pub mod Fit
 pub mod Laws
