@@ -47,9 +47,9 @@ one_bit (suc d) n small one =
     let step = ones_step n in
     elim (cases_lt (n % 2) 1) [
       | inl even ↦ (
-        let half = one_bit d (n / 2) (omega arith) (omega arith) in
-        let twice : n ≡ 2 ^ half.0 * 2 = omega (arith, half.1) in
-        (suc half.0, twice ∙ sym (pow-suc 2 half.0)))
+          let half = one_bit d (n / 2) (omega arith) (omega arith) in
+          let twice : n ≡ 2 ^ half.0 * 2 = omega (arith, half.1) in
+          (suc half.0, twice ∙ sym (pow-suc 2 half.0)))
       | inr odd ↦ (let half : n / 2 ≡ 0 = zero_from_ones (n / 2) (omega arith) in (0, omega arith))
     ]
 
@@ -124,14 +124,14 @@ least_power least a (inl one) (inr power) =
 least_power least a (inr four) (inr power) =
     elim (cases_lt power.0 2) [
       | inl less ↦ (
-        let low : power.0 ≤ 2 = omega arith in
-        let small : 2 ^ power.0 ≤ 2 ^ 2 = pow-le-pow_right {n = 2} (omega arith) low in
-        let four_is : 2 ^ 2 ≡ 4 = refl in
-        (2, omega (arith, power.1)))
+          let low : power.0 ≤ 2 = omega arith in
+          let small : 2 ^ power.0 ≤ 2 ^ 2 = pow-le-pow_right {n = 2} (omega arith) low in
+          let four_is : 2 ^ 2 ≡ 4 = refl in
+          (2, omega (arith, power.1)))
       | inr most ↦ (
-        let large : 2 ^ 2 ≤ 2 ^ power.0 = pow-le-pow_right {n = 2} (omega arith) most in
-        let four_is : 2 ^ 2 ≡ 4 = refl in
-        (power.0, omega (arith, power.1)))
+          let large : 2 ^ 2 ≤ 2 ^ power.0 = pow-le-pow_right {n = 2} (omega arith) most in
+          let four_is : 2 ^ 2 ≡ 4 = refl in
+          (power.0, omega (arith, power.1)))
     ]
 
 fit_align : (b : List ℕ) (i : ℕ) → has_fit_align b i ≡ true → (sh_addralign b i ≡ 0) ⊎ IsPowerOfTwo (sh_addralign b i)
@@ -177,7 +177,7 @@ section_fit file b i fit within kept =
       toc_align_most = λ toc. grind (arith, nat_tests, a.align);
       text_whole = λ text. grind (arith, nat_tests, a.text);
       stored = λ not_zeroed.
-        length-section_bytes b i (no_fault file b parts.fault) within (kept_stored b i flag not_zeroed a);
+          length-section_bytes b i (no_fault file b parts.fault) within (kept_stored b i flag not_zeroed a);
     }
 
 -- what is asked of a symbol
@@ -255,5 +255,5 @@ symbol_fit file b j fit above within =
       common_align_most = λ common. grind (arith, nat_tests, power common);
       within = λ kept. grind (arith, nat_tests, (both kept).0);
       entries = λ text.
-        and_not (lies_in_text b j) (has_entries (entry_points b j) (st_value b j) (sh_size b (index_of b j))) (both (text_kept b j text)).1 text;
+          and_not (lies_in_text b j) (has_entries (entry_points b j) (st_value b j) (sh_size b (index_of b j))) (both (text_kept b j text)).1 text;
     }

@@ -14,3 +14,6 @@ pub use files::FileBytes;
 pub use refusal::{Refusal, Site};
 pub use set::ObjectSet;
 pub use sort::Sort;
+
+#[cfg(test)]
+mod tests;

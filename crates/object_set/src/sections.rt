@@ -10,18 +10,29 @@ use crate::refusal::Refusal;
 use elf64_records::{ObjectView, Place};
 
 pub const SHF_WRITE: u64 = 0x1;
+
 pub const SHF_ALLOC: u64 = 0x2;
+
 pub const SHF_EXECINSTR: u64 = 0x4;
+
 pub const SHF_TLS: u64 = 0x400;
+
 pub const SHF_COMPRESSED: u64 = 0x800;
 
 pub const SHT_PROGBITS: u32 = 1;
+
 pub const SHT_NOTE: u32 = 7;
+
 pub const SHT_NOBITS: u32 = 8;
+
 pub const SHT_REL: u32 = 9;
+
 pub const SHT_INIT_ARRAY: u32 = 14;
+
 pub const SHT_FINI_ARRAY: u32 = 15;
+
 pub const SHT_GROUP: u32 = 17;
+
 pub const SHT_SYMTAB_SHNDX: u32 = 18;
 
 /// The name of the sections that are parts of the table of contents.
@@ -29,6 +40,7 @@ pub const TOC: &[u8] = b".toc";
 
 /// The largest alignment, and that in the table of contents.
 pub const ALIGN_LIMIT: u64 = 0x1_0000;
+
 const TOC_ALIGN_LIMIT: u64 = 0x100;
 
 /// Whether an alignment is a power of two up to a limit.

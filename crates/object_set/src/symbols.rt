@@ -12,17 +12,25 @@ use crate::sort::{Sort, sort_of};
 use elf64_records::{ObjectView, Place};
 
 const STB_LOCAL: u8 = 0;
+
 const STB_GLOBAL: u8 = 1;
+
 const STB_WEAK: u8 = 2;
+
 const STB_GNU_UNIQUE: u8 = 10;
 
 const STT_TLS: u8 = 6;
+
 const STT_GNU_IFUNC: u8 = 10;
 
 const SHN_UNDEF: u16 = 0;
+
 const SHN_LORESERVE: u16 = 0xFF00;
+
 const SHN_ABS: u16 = 0xFFF1;
+
 const SHN_COMMON: u16 = 0xFFF2;
+
 const SHN_XINDEX: u16 = 0xFFFF;
 
 /// The name of the base of the table of contents.
