@@ -4,7 +4,9 @@
 #![tactic(auto)]
 
 mod layout;
+mod reading;
 mod writing;
 
-pub use layout::{Segment, Segments};
+pub use layout::{ExecFault, Segment, Segments};
+pub use reading::read_exec;
 pub use writing::write_exec;
