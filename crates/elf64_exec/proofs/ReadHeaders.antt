@@ -46,7 +46,7 @@ cons_option-nil : (o : Option Segment) → cons_option o [] ≡ option_to_list o
 cons_option-nil None = refl
 cons_option-nil (Some x) = refl
 
-segments_more : (file : List ℕ) (i : ℕ) → segments_upto file (i + 1) ≡ segments_upto file i ++ option_to_list (segment_of file i)
+pub segments_more : (file : List ℕ) (i : ℕ) → segments_upto file (i + 1) ≡ segments_upto file i ++ option_to_list (segment_of file i)
 segments_more file i =
     ap (filter_map (segment_of file)) (range_more 0 i) ∙ filter_map-append (segment_of file) (range_with_len 0 i) ((0 + i) ∷ [])
     ∙ ap (λ k. segments_upto file i ++ cons_option (segment_of file k) []) (zero-add i)
@@ -57,17 +57,17 @@ abbrev pub segment_with : ℕ → ℕ → List ℕ → ℕ → Segment
 segment_with flags address bytes size = record { flags = flags; address = address; bytes = bytes; size = size }
 
 -- the segment that a header names
-abbrev read_segment : List ℕ → ℕ → Segment
+abbrev pub read_segment : List ℕ → ℕ → Segment
 read_segment file i = segment_with (p_flags file i) (p_vaddr file i) (loaded_bytes file i) (p_memsz file i)
 
 -- when a header gives a segment
-none_of_other : (kind size : ℕ) (s : Segment) → kind ≢ 1 → (if kind == 1 && nat_lt 0 size then Some s else None) ≡ None
+pub none_of_other : (kind size : ℕ) (s : Segment) → kind ≢ 1 → (if kind == 1 && nat_lt 0 size then Some s else None) ≡ None
 none_of_other kind size s other = grind (arith, nat_tests)
 
-none_of_empty : (kind size : ℕ) (s : Segment) → size ≡ 0 → (if kind == 1 && nat_lt 0 size then Some s else None) ≡ None
+pub none_of_empty : (kind size : ℕ) (s : Segment) → size ≡ 0 → (if kind == 1 && nat_lt 0 size then Some s else None) ≡ None
 none_of_empty kind size s empty = grind (arith, nat_tests)
 
-some_of_load : (kind size : ℕ) (s : Segment) → kind ≡ 1 → 0 < size → (if kind == 1 && nat_lt 0 size then Some s else None) ≡ Some s
+pub some_of_load : (kind size : ℕ) (s : Segment) → kind ≡ 1 → 0 < size → (if kind == 1 && nat_lt 0 size then Some s else None) ≡ Some s
 some_of_load kind size s load some = grind (arith, nat_tests)
 
 -- a header of another type

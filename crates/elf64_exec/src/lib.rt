@@ -3,10 +3,12 @@
 // Header"). There are no section headers.
 #![tactic(auto)]
 
+mod laws;
 mod layout;
 mod reading;
 mod writing;
 
+pub use laws::{faults_are_one, loaded_has_no_fault, written_loads};
 pub use layout::{ExecFault, Segment, Segments};
 pub use reading::read_exec;
 pub use writing::write_exec;

@@ -20,6 +20,7 @@ const PT_LOAD: u32 = 1;
 /// with them. Program headers of other types and empty segments are skipped.
 pub fn read_exec(alloc: Global, bytes: &[u8]) -> Result<Segments, ExecFault>
     ensures loads { IfOk result (λ segments. Loads bytes.now segments.entry segments.list.items) }
+    ensures placed { IfOk result (λ segments. ArePlaced segments.list.items) }
     ensures fault { IfErr result (HasFault bytes.now) }
 {
     if !has_magic(bytes) {
@@ -122,6 +123,7 @@ fn read_segments(alloc: Global, bytes: &[u8]) -> Result<Vec<Segment>, ExecFault>
     requires header { IsExecHeader bytes.now }
     ensures good { IfOk result (λ list. (i : ℕ) → i < e_phnum bytes.now → IsGood bytes.now i) }
     ensures segments { IfOk result (λ list. list.items ≡ segments_upto bytes.now (e_phnum bytes.now)) }
+    ensures placed { IfOk result (λ list. ArePlaced list.items) }
     ensures fault { IfErr result (HasFault bytes.now) }
 {
     let length = bytes.len() as u64;

@@ -3,6 +3,8 @@ use Rattle.std.proofs.lemmas.Bool.{false≢true}
 use Rattle.elf64_exec.specs.Loading.{e_phnum, HasFault}
 use Rattle.elf64_exec.specs.declared.layout.ExecFault.TheVariants.{BadSegment}
 use Rattle.elf64_exec.proofs.ReadHeaders.{numbered, refused, skipped, loaded_empty, loaded_segment}
+use Rattle.elf64_exec.specs.Executable.{ArePlaced}
+use Rattle.elf64_exec.proofs.Placing.{segments_placed}
 use Rattle.elf64_exec.proofs.reading.read_segments.Goals as goal
 use Rattle.elf64_exec.proofs.reading.read_segments.Goals.{then-header-eq-PT_LOAD+else-not-can_follow+then-header-gt0+in_ok-segment+in_ok-push, then-header-eq-PT_LOAD+else-not-can_follow+else-header-gt0, else-header-eq-PT_LOAD}
 
@@ -28,3 +30,9 @@ loop-i-preserved c =
 
 pub returns-clause-good : goal.returns-clause-good
 returns-clause-good c = λ i h. c.loop-i.invariant.good i (let lt : i < c.loop-i.i = omega (arith, c.half_at-i-end.ensures) in lt)
+
+pub returns-clause-placed : goal.returns-clause-placed
+returns-clause-placed c =
+    let file = c.args.bytes.now in
+    let placed = segments_placed file c.loop-i.i c.loop-i.invariant.good in
+    subst ArePlaced (sym c.loop-i.invariant.segments_are) placed
