@@ -57,9 +57,9 @@ placed_next file k so_far good =
     let same = λ (none : segment_of file k ≡ None). subst P (sym (segments_more file k ∙ ap (λ o. upto ++ option_to_list o) none ∙ append-nil upto)) (placed_same file k upto so_far) in
     ⊎_elim
     (λ load. ⊎_elim
-      (λ some. subst P (sym (segments_more file k ∙ ap (λ o. upto ++ option_to_list o) (some_of_load (p_type file k) (p_memsz file k) (read_segment file k) load.1 some))) (placed_more file k upto so_far load.1 (good load.1) some))
-      (λ empty. same (none_of_empty (p_type file k) (p_memsz file k) (read_segment file k) (omega (arith, empty))))
-      (cases_lt 0 (p_memsz file k)))
+    (λ some. subst P (sym (segments_more file k ∙ ap (λ o. upto ++ option_to_list o) (some_of_load (p_type file k) (p_memsz file k) (read_segment file k) load.1 some))) (placed_more file k upto so_far load.1 (good load.1) some))
+    (λ empty. same (none_of_empty (p_type file k) (p_memsz file k) (read_segment file k) (omega (arith, empty))))
+    (cases_lt 0 (p_memsz file k)))
     (λ other. same (none_of_other (p_type file k) (p_memsz file k) (read_segment file k) other.1))
     (eqb_tells (p_type file k) 1)
 

@@ -1,10 +1,13 @@
 -- What callers may cite about segments and executables.
-use Rattle.std.proofs.Common.{ℕ, ◌≡◌, ◌≢◌, ◌<◌, ⊎_elim, slice_index_or, List, [], ◌∷◌, zero, suc, refl, sym, ap, arith}
+use Rattle.std.proofs.Common.{ℕ, ◌≡◌, ◌≢◌, ◌<◌, ◌≤◌, ⊎_elim, slice_index_or, List, [], ◌∷◌, ◌++◌, zero, suc, refl, sym, ap, arith}
+use Rattle.std.specs.List.{All, AllPairs}
 use Rattle.std.proofs.lemmas.Bool.{cases_lt}
+use Rattle.std.proofs.lemmas.List.Elements.{All-cons, All-push}
+use Rattle.std.proofs.lemmas.List.Quantifiers.{all_pairs_push}
 use Rattle.elf64_exec.specs.declared.layout.Segment.{Segment}
 use Rattle.elf64_exec.specs.declared.layout.ExecFault.{ExecFault}
 use Rattle.elf64_exec.specs.declared.layout.ExecFault.TheVariants.{NotElf, NotExec, BadSegment, Memory}
-use Rattle.elf64_exec.specs.Executable.{IsSound, HasBytes, IsImage}
+use Rattle.elf64_exec.specs.Executable.{end_of, IsSound, IsBefore, ArePlaced, HasBytes, IsImage}
 use Rattle.elf64_exec.specs.Loading.{IsGood, HasFault, Loads}
 
 -- one sound segment with a byte makes an executable
@@ -45,3 +48,28 @@ one_fault file (BadSegment i) (BadSegment j) has has' real real' =
     ap (λ n. BadSegment n) (first_bad file i j has.3 has.4 has'.3 has'.4)
 one_fault file Memory b has has' real real' = absurd (real refl)
 one_fault file a Memory has has' real real' = absurd (real' refl)
+
+-- no segments, one more before, and one more behind
+pub ArePlaced-nil : ArePlaced []
+ArePlaced-nil = record {
+  sound = λ k d h. absurd (omega arith);
+  apart = λ i j d before within. absurd (omega arith);
+}
+
+pub ArePlaced-cons : (s : Segment) (rest : List Segment) → IsSound s → All (λ t. end_of s ≤ t.address) rest → ArePlaced rest → ArePlaced (s ∷ rest)
+ArePlaced-cons s rest sound before placed = record {
+  sound = All-cons IsSound s rest sound placed.sound;
+  apart = pairs;
+}
+  where
+    pairs : AllPairs IsBefore (s ∷ rest)
+    pairs zero zero d lt within = absurd (omega arith)
+    pairs zero (suc j) d lt within = before j d (omega arith)
+    pairs (suc i) zero d lt within = absurd (omega arith)
+    pairs (suc i) (suc j) d lt within = placed.apart i j d (omega arith) (omega arith)
+
+pub ArePlaced-push : (segments : List Segment) (s : Segment) → ArePlaced segments → IsSound s → All (λ t. end_of t ≤ s.address) segments → ArePlaced (segments ++ s ∷ [])
+ArePlaced-push segments s placed sound after = record {
+  sound = All-push IsSound segments s placed.sound sound;
+  apart = all_pairs_push IsBefore segments s placed.apart after;
+}

@@ -12,3 +12,6 @@ pub use laws::{faults_are_one, loaded_has_no_fault, written_loads};
 pub use layout::{ExecFault, Segment, Segments};
 pub use reading::read_exec;
 pub use writing::write_exec;
+
+#[cfg(test)]
+mod tests;

@@ -30,7 +30,10 @@ pub fn read_exec(alloc: Global, bytes: &[u8]) -> Result<Segments, ExecFault>
         return Err(ExecFault::NotExec);
     }
     let list = read_segments(alloc, bytes)?;
-    Ok(Segments { entry: long_at(bytes, 24), list })
+    Ok(Segments {
+        entry: long_at(bytes, 24),
+        list,
+    })
 }
 
 /// Whether the file header is that of an executable whose program headers lie in the file.

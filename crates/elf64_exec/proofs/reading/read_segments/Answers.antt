@@ -21,11 +21,11 @@ loop-i-preserved c =
     let file = c.args.bytes.now in
     let is = numbered file c.loop-i.i c.long_at-start.result c.read-header.result c.long_at-start.ensures c.read-header.ensures in
     elim c.if-header-eq-PT_LOAD.branch [
-      then-header-eq-PT_LOAD+else-not-can_follow+then-header-gt0+in_ok-segment+in_ok-push w ↦
-        loaded_segment file c.loop-i.i c.loop-i.top _ _ _ c.read-header.result w.in_ok-segment.field-0 _ c.loop-i.invariant is w.if-header-eq-PT_LOAD.true refl (w.if-not-can_follow.ensures.0 refl) w.top-is w.if-header-gt0.true w.in_ok-segment.ensures.segment (ap (λ v. v.items) w.list-is ∙ w.in_ok-push.ensures.items)
-    | then-header-eq-PT_LOAD+else-not-can_follow+else-header-gt0 w ↦
-        loaded_empty file c.loop-i.i c.loop-i.top _ _ _ c.read-header.result _ c.loop-i.invariant is w.if-header-eq-PT_LOAD.true refl (w.if-not-can_follow.ensures.0 refl) w.top-is w.if-header-gt0.false (ap (λ v. v.items) w.list-is)
-    | else-header-eq-PT_LOAD w ↦ rw (w.list-is, w.top-is) (skipped file c.loop-i.i c.loop-i.top _ c.loop-i.invariant (λ load. w.if-header-eq-PT_LOAD.false (is.kind ∙ load)))
+      | then-header-eq-PT_LOAD+else-not-can_follow+then-header-gt0+in_ok-segment+in_ok-push w ↦
+          loaded_segment file c.loop-i.i c.loop-i.top _ _ _ c.read-header.result w.in_ok-segment.field-0 _ c.loop-i.invariant is w.if-header-eq-PT_LOAD.true refl (w.if-not-can_follow.ensures.0 refl) w.top-is w.if-header-gt0.true w.in_ok-segment.ensures.segment (ap (λ v. v.items) w.list-is ∙ w.in_ok-push.ensures.items)
+      | then-header-eq-PT_LOAD+else-not-can_follow+else-header-gt0 w ↦
+          loaded_empty file c.loop-i.i c.loop-i.top _ _ _ c.read-header.result _ c.loop-i.invariant is w.if-header-eq-PT_LOAD.true refl (w.if-not-can_follow.ensures.0 refl) w.top-is w.if-header-gt0.false (ap (λ v. v.items) w.list-is)
+      | else-header-eq-PT_LOAD w ↦ rw (w.list-is, w.top-is) (skipped file c.loop-i.i c.loop-i.top _ c.loop-i.invariant (λ load. w.if-header-eq-PT_LOAD.false (is.kind ∙ load)))
     ]
 
 pub returns-clause-good : goal.returns-clause-good
