@@ -1,5 +1,5 @@
 -- The segments of a file without fault are in order, apart and sound.
-use Rattle.std.proofs.Common.{ℕ, zero, suc, ◌+◌, ◌≡◌, ◌≢◌, ◌<◌, ◌≤◌, ◌⊎◌, ⊎_elim, Bool, true, false, eqb, List, [], ◌∷◌, ◌++◌, length, get_or, take, drop, Option, Some, None, refl, sym, ap, ◌∙◌, subst, add-one, arith}
+use Rattle.std.proofs.Common.{ℕ, zero, suc, ◌+◌, ◌≡◌, ◌<◌, ⊎_elim, List, [], ◌∷◌, ◌++◌, drop, None, refl, sym, ap, ◌∙◌, subst, add-one, arith}
 use Rattle.std.specs.List.{All, AllPairs}
 use Rattle.std.specs.Option.{option_to_list}
 use Rattle.std.proofs.lemmas.List.{append-nil, length-take}
@@ -9,7 +9,7 @@ use Rattle.std.proofs.lemmas.Bool.{cases_lt}
 use Rattle.std.proofs.lemmas.Bool.Decides.{eqb_tells}
 use Rattle.elf64_exec.specs.declared.layout.Segment.{Segment}
 use Rattle.elf64_exec.specs.Executable.{end_of, IsSound, IsBefore, ArePlaced}
-use Rattle.elf64_exec.specs.Loading.{p_type, p_offset, p_vaddr, p_filesz, p_memsz, IsLoad, load_end, CanLoad, IsGood, loaded_bytes, segment_of, segments_upto, e_phnum, Loads}
+use Rattle.elf64_exec.specs.Loading.{p_type, p_offset, p_filesz, p_memsz, IsLoad, load_end, CanLoad, IsGood, segment_of, segments_upto, e_phnum, Loads}
 use Rattle.elf64_exec.proofs.ReadHeaders.{read_segment, none_of_other, none_of_empty, some_of_load, segments_more}
 
 -- a segment is that of a header below k

@@ -1,5 +1,5 @@
 -- What the reader knows after so many program headers.
-use Rattle.std.proofs.Common.{ℕ, ◌+◌, ◌*◌, ◌≡◌, ◌≢◌, ◌<◌, ◌≤◌, ◌⊎◌, ⊎_elim, inl, inr, Bool, true, false, cond, ◌==◌, ◌&&◌, if◌then◌else◌, nat_lt, eqb, ltb, List, [], ◌∷◌, ◌++◌, length, take, drop, Option, Some, None, refl, sym, ap, zero-add, ◌∙◌, subst, arith}
+use Rattle.std.proofs.Common.{ℕ, ◌+◌, ◌*◌, ◌≡◌, ◌≢◌, ◌<◌, ◌≤◌, ◌⊎◌, ⊎_elim, inl, inr, ◌==◌, ◌&&◌, if◌then◌else◌, nat_lt, List, [], ◌∷◌, ◌++◌, length, take, drop, Option, Some, None, refl, sym, ap, zero-add, ◌∙◌, subst, arith}
 use Rattle.std.specs.List.{filter_map, cons_option, range_with_len}
 use Rattle.std.specs.Option.{option_to_list}
 use Rattle.std.proofs.lemmas.List.{append-nil, map-id}
@@ -13,7 +13,7 @@ use Rattle.elf64_exec.specs.declared.layout.Segment.{Segment}
 use Rattle.elf64_exec.specs.declared.layout.ExecFault.TheVariants.{BadSegment}
 use Rattle.elf64_exec.specs.declared.reading.ProgramHeader.{ProgramHeader}
 use Rattle.elf64_exec.specs.Headers.{IsHeaderAt, CanFollow}
-use Rattle.elf64_exec.specs.Loading.{header_start, p_type, p_flags, p_offset, p_vaddr, p_filesz, p_memsz, e_phoff, e_phnum, IsLoad, load_end, CanLoad, IsGood, IsExecHeader, HasFault, loaded_bytes, segment_of, segments_upto}
+use Rattle.elf64_exec.specs.Loading.{header_start, p_type, p_flags, p_vaddr, p_memsz, e_phoff, e_phnum, IsLoad, load_end, CanLoad, IsGood, IsExecHeader, HasFault, loaded_bytes, segment_of, segments_upto}
 
 -- all headers below i are good, top is the greatest end of their memory, and these are their segments
 pub record ReadSoFar (file : List ℕ) (i top : ℕ) (segments : List Segment) : Type 0 where

@@ -1,12 +1,12 @@
 -- What was written is read back.
-use Rattle.std.proofs.Common.{ℕ, zero, suc, ◌+◌, ◌*◌, ◌^◌, ◌≡◌, ◌<◌, ◌≤◌, ◌⊎◌, inl, inr, List, [], ◌∷◌, ◌++◌, length, get_or, take, drop, Option, Some, None, refl, sym, ap, ◌∙◌, subst, append_assoc, add-zero, zero-add, arith}
+use Rattle.std.proofs.Common.{ℕ, zero, suc, ◌+◌, ◌*◌, ◌^◌, ◌≡◌, ◌<◌, ◌≤◌, inr, List, [], ◌∷◌, ◌++◌, length, get_or, take, drop, Option, Some, refl, sym, ap, ◌∙◌, subst, append_assoc, add-zero, zero-add, arith}
 use Rattle.std.specs.List.{All, filter_map, cons_option, range_with_len}
 use Rattle.std.proofs.lemmas.List.{length-append}
 use Rattle.ppc_bytes.specs.Bytes.{number_at}
 use Rattle.elf64_exec.specs.declared.layout.Segment.{Segment}
-use Rattle.elf64_exec.specs.Executable.{end_of, IsSound, IsBefore, ArePlaced, IsImage, file_header, program_headers, contents, header_length, page_up, file_end, executable}
-use Rattle.elf64_exec.specs.Loading.{e_phoff, e_phnum, header_start, p_type, p_flags, p_offset, p_vaddr, p_filesz, p_memsz, IsExecHeader, IsLoad, load_end, CanLoad, IsGood, segment_of, segments_upto, Loads}
-use Rattle.elf64_exec.proofs.Lengths.{length-headers, length-file_header, page_up_above}
+use Rattle.elf64_exec.specs.Executable.{IsSound, IsImage, file_header, program_headers, contents, header_length, page_up, executable}
+use Rattle.elf64_exec.specs.Loading.{e_phoff, header_start, p_type, p_offset, p_filesz, p_memsz, CanLoad, segment_of, segments_upto, Loads}
+use Rattle.elf64_exec.proofs.Lengths.{length-headers, length-file_header}
 use Rattle.elf64_exec.proofs.ReadHeaders.{segment_with, read_segment, some_of_load}
 use Rattle.elf64_exec.proofs.WrittenHeaders.{IsFileHeader, file_header_says, Fits, IsProgramHeader, program_headers_say, offset_at}
 use Rattle.elf64_exec.proofs.WrittenContents.{IsStored, contents_stored}

@@ -1,14 +1,14 @@
 -- What the headers of a written executable say.
-use Rattle.std.proofs.Common.{ℕ, zero, suc, ◌+◌, ◌*◌, ◌^◌, ◌≡◌, ◌<◌, ◌≤◌, List, [], ◌∷◌, ◌++◌, length, get_or, take, drop, refl, sym, ap, ◌∙◌, subst, add-one, append_assoc, slice_index, arith}
-use Rattle.std.proofs.lemmas.List.{drop_at, drop-drop, take_at, length-append}
-use Rattle.byteorder.specs.Endian.{little_bytes, little_number}
+use Rattle.std.proofs.Common.{ℕ, zero, suc, ◌+◌, ◌*◌, ◌^◌, ◌≡◌, ◌<◌, List, [], ◌∷◌, ◌++◌, length, get_or, take, drop, refl, sym, ap, ◌∙◌, subst, append_assoc, arith}
+use Rattle.std.proofs.lemmas.List.{drop_at, drop-drop, length-append}
+use Rattle.byteorder.specs.Endian.{little_bytes}
 use Rattle.byteorder.specs.Numbers.{little_number-reads_back, length-bytes_low_first}
 use Rattle.ppc_bytes.specs.Bytes.{number, number_at}
-use Rattle.ppc_bytes.specs.Elf.{HasMagic, IsPpc64Le}
+use Rattle.ppc_bytes.specs.Elf.{IsPpc64Le}
 use Rattle.ppc_bytes.specs.Laws.{number-take}
 use Rattle.elf64_exec.specs.declared.layout.Segment.{Segment}
 use Rattle.elf64_exec.specs.Executable.{identification, half, word, long, file_header, program_header, program_headers, page_up}
-use Rattle.elf64_exec.specs.Loading.{e_type, e_entry, e_phoff, e_flags, e_phentsize, e_phnum, header_start, p_type, p_flags, p_offset, p_vaddr, p_filesz, p_memsz}
+use Rattle.elf64_exec.specs.Loading.{e_type, e_entry, e_phoff, e_flags, e_phentsize, e_phnum}
 use Rattle.elf64_exec.proofs.Lengths.{length-program_header}
 
 -- the bytes of a number spell it

@@ -1,5 +1,5 @@
 -- What callers may cite about segments and executables.
-use Rattle.std.proofs.Common.{ℕ, ◌≡◌, ◌≢◌, ◌<◌, ◌≤◌, ⊎_elim, slice_index_or, List, [], ◌∷◌, ◌++◌, zero, suc, refl, sym, ap, arith}
+use Rattle.std.proofs.Common.{ℕ, ◌≡◌, ◌≢◌, ◌<◌, ◌≤◌, ⊎_elim, slice_index_or, List, [], ◌∷◌, ◌++◌, zero, suc, refl, ap, arith}
 use Rattle.std.specs.List.{All, AllPairs}
 use Rattle.std.proofs.lemmas.Bool.{cases_lt}
 use Rattle.std.proofs.lemmas.List.Elements.{All-cons, All-push}

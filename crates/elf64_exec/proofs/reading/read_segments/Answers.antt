@@ -1,4 +1,4 @@
-use Rattle.std.proofs.Common.{ℕ, ◌≡◌, ◌<◌, sym, subst, refl, ◌∙◌, arith, ap}
+use Rattle.std.proofs.Common.{ℕ, ◌<◌, sym, subst, refl, ◌∙◌, arith, ap}
 use Rattle.std.proofs.lemmas.Bool.{false≢true}
 use Rattle.elf64_exec.specs.Loading.{e_phnum, HasFault}
 use Rattle.elf64_exec.specs.declared.layout.ExecFault.TheVariants.{BadSegment}
