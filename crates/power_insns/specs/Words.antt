@@ -1,5 +1,5 @@
 -- Words as lists of fields, the most significant first (Power ISA 3.1, book I, 1.6 "Instruction formats").
-use Rattle.std.specs.Prelude.{◌≡◌, ℕ, ℤ, pos, neg_ℤ, ◌*◌, ◌+◌, ◌-◌, ◌^◌, ◌≤ℤ◌, ◌<ℤ◌, Bool, true, false, List, [], ◌∷◌}
+use Rattle.std.specs.Prelude.{◌≡◌, ℕ, ℤ, pos, neg_ℤ, ◌*◌, ◌+◌, ◌-◌, ◌^◌, ◌<◌, ◌≤ℤ◌, ◌<ℤ◌, Bool, true, false, List, [], ◌∷◌}
 use Rattle.std.specs.Int.{int_rem_euclid}
 use Rattle.std.specs.Int.RustNames.{unsigned_abs}
 
@@ -23,6 +23,11 @@ word fs = word_from 0 fs
 abbrev pub total_bits : List Field → ℕ
 total_bits [] = 0
 total_bits (f ∷ fs) = f.bits + total_bits fs
+
+-- what each field holds fits its bits
+abbrev pub EachHolds : List Field → Type 0
+EachHolds [] = Unit {0}
+EachHolds (f ∷ fs) = (f.value < 2 ^ f.bits) × EachHolds fs
 
 -- a field of one bit
 abbrev pub flag : Bool → ℕ

@@ -1,6 +1,8 @@
 // From instructions to words.
-ghost use Rattle.std.specs.Prelude.{◌≡◌};
-ghost use Rattle.power_insns.specs.Table.{word_of, Fits};
+ghost use Rattle.std.specs.Prelude.{◌≡◌, ◌<◌, ◌^◌};
+ghost use Rattle.power_insns.specs.declared.instruction.Insn.{Insn};
+ghost use Rattle.power_insns.specs.Words.{EachHolds, total_bits};
+ghost use Rattle.power_insns.specs.Table.{fields, word_of, Fits};
 
 use crate::instruction::Insn;
 use crate::words::{d_word, low_of, md_word, x_word};
@@ -88,3 +90,11 @@ pub fn encode(insn: &Insn) -> u32
         Insn::Mtspr { rs, spr } => x_word(31, rs, spr % 32, spr / 32, 467, false),
     }
 }
+
+/// The law of the layouts: each has 32 bits, and where an instruction fits, what a field holds fits the field, so that no field
+/// reaches into another and the word has 32 bits too.
+pub fn layouts()
+    ensures whole { (i : Insn) → total_bits (fields i) ≡ 32 }
+    ensures apart { (i : Insn) → Fits i → EachHolds (fields i) }
+    ensures word { (i : Insn) → Fits i → word_of i < 2 ^ 32 }
+{}

@@ -9,9 +9,13 @@ pub mod extended;
 pub mod forms;
 pub mod instruction;
 pub mod meaning;
+#[cfg(test)]
+mod meaning_tests;
 pub mod plan;
 pub mod uses;
 pub mod words;
+#[cfg(test)]
+mod words_tests;
 
 pub use decoding::decode;
 pub use encoding::encode;
