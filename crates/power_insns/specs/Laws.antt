@@ -1,4 +1,4 @@
--- Laws of the words: how large their parts are, and that a word tells its instruction.
+-- The law that a word tells its instruction, a lemma for each form.
 use Rattle.std.proofs.Common.{◌≡◌, ℕ, ℤ, Bool, rules}
 use Rattle.power_insns.specs.declared.instruction.Insn.{Insn}
 use Rattle.power_insns.specs.declared.instruction.Insn.TheVariants.{Mulli, Cmpli, Cmpi, Addi, Addis, Bc, Sc, B, Bclr, Bcctr, Rlwinm, Ori, Oris, Xori, Xoris, Andi, Andis, Rldicl, Rldicr, Lwz, Lbz, Lhz, Lha, Stw, Stb, Sth, Ld, Lwa, Std, Stdu, Cmp, Cmpl, Add, Subf, Neg, Mullw, Mulld, Divd, Divdu, And, Andc, Nor, Xor, Or, Slw, Srw, Sld, Srd, Extsb, Extsh, Extsw, Ldx, Lwzx, Lbzx, Lhzx, Lhax, Lwax, Stdx, Stwx, Stbx, Sthx, Mfspr, Mtspr}

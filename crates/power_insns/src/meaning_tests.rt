@@ -2,7 +2,10 @@
 use crate::compute::{compare, compute, divide, widen};
 use crate::decoding::decode;
 use crate::instruction::Insn;
-use crate::meaning::{Condition, Counter, Operand, Operation, Sign, Target, Width};
+use crate::meaning::Condition::{Always, Bit};
+use crate::meaning::Counter::{Kept, Lowered};
+use crate::meaning::Target::{Ahead, Through};
+use crate::meaning::{Operand, Operation, Sign, Width};
 use crate::plan::plan_for;
 use crate::uses::{Access, memory, reads, writes};
 
@@ -44,6 +47,13 @@ fn compared(w: u32, a: u64, b: u64) -> Option<[bool; 4]> {
         } => Some(compare(width, sign, value(x, a, b), value(y, a, b))),
         _ => None,
     }
+}
+
+// Each word does its operation.
+macro_rules! planned {
+    ($rt:ident; $($word:literal => $operation:pat,)*) => {
+        $(assert!($rt; matches!(operation($word), Some($operation)));)*
+    };
 }
 
 const MINUS_ONE: u64 = u64::MAX;
@@ -189,20 +199,26 @@ fn comparisons_of_words_and_doublewords(rt: HostRuntime) {
     for (w, a, b, want) in table {
         assert_eq!(rt; compared(w, a, b), Some(want), "{w:08x}");
     }
-    // a result of add. or of any such form is compared whole
-    assert_eq!(rt; compare(Width::Long, Sign::Signed, 0x8000_0000, 0), greater);
-    assert!(rt;
-        matches!(
-            operation(0x7C64_2A15),
-            Some(Operation::Calculate { rc: true, .. })
-        )
+}
+
+#[test]
+fn results_compared_with_zero(rt: HostRuntime) {
+    // the whole result counts: its low word alone would be less than 0
+    assert_eq!(rt;
+        compare(Width::Long, Sign::Signed, 0x8000_0000, 0),
+        [false, true, false, false]
     );
-    assert!(rt;
-        matches!(
-            operation(0x7083_0001),
-            Some(Operation::Calculate { rc: true, .. })
-        )
+    assert_eq!(rt;
+        compare(Width::Long, Sign::Signed, LEAST, 0),
+        [true, false, false, false]
     );
+    // add. 3,4,5; andi. 3,4,1; divd. 3,4,5; add 3,4,5
+    planned! { rt;
+        0x7C64_2A15 => Operation::Calculate { rc: true, .. },
+        0x7083_0001 => Operation::Calculate { rc: true, .. },
+        0x7C64_2BD3 => Operation::Divide { rc: true, .. },
+        0x7C64_2A14 => Operation::Calculate { rc: false, .. },
+    }
 }
 
 #[test]
@@ -216,247 +232,73 @@ fn loaded_numbers_and_their_signs(rt: HostRuntime) {
         widen(Width::Word, Sign::Unsigned, 0x8000_0000),
         0x8000_0000
     );
-    let unsigned = [
-        0x8064_0000,
-        0x8864_0000,
-        0xA064_0000,
-        0xE864_0000,
-        0x7C64_282E,
-    ];
-    for w in unsigned {
-        assert!(rt;
-            matches!(
-                operation(w),
-                Some(Operation::Load {
-                    sign: Sign::Unsigned,
-                    ..
-                })
-            ),
-            "{w:08x}"
-        );
-    }
-    for w in [0xA864_0000, 0xE864_0002, 0x7C64_2AAE, 0x7C64_2AAA] {
-        assert!(rt;
-            matches!(
-                operation(w),
-                Some(Operation::Load {
-                    sign: Sign::Signed,
-                    ..
-                })
-            ),
-            "{w:08x}"
-        );
+    // lwz, lbz, lhz and ld 3,0(4), lwzx 3,4,5; lha and lwa 3,0(4), lhax and lwax 3,4,5
+    planned! { rt;
+        0x8064_0000 => Operation::Load { width: Width::Word, sign: Sign::Unsigned, .. },
+        0x8864_0000 => Operation::Load { width: Width::Byte, sign: Sign::Unsigned, .. },
+        0xA064_0000 => Operation::Load { width: Width::Half, sign: Sign::Unsigned, .. },
+        0xE864_0000 => Operation::Load { width: Width::Long, sign: Sign::Unsigned, .. },
+        0x7C64_282E => Operation::Load { width: Width::Word, sign: Sign::Unsigned, .. },
+        0xA864_0000 => Operation::Load { width: Width::Half, sign: Sign::Signed, .. },
+        0xE864_0002 => Operation::Load { width: Width::Word, sign: Sign::Signed, .. },
+        0x7C64_2AAE => Operation::Load { width: Width::Half, sign: Sign::Signed, .. },
+        0x7C64_2AAA => Operation::Load { width: Width::Word, sign: Sign::Signed, .. },
     }
 }
 
 #[test]
-fn branches_by_their_conditions(rt: HostRuntime) {
-    use Condition::{Always, Bit};
-    use Counter::{Kept, Lowered};
-    // b -4, bl 8
-    assert!(rt;
-        matches!(
-            operation(0x4BFF_FFFC),
-            Some(Operation::Branch {
-                counter: Kept,
-                condition: Always,
-                target: Target::Ahead(0xFFFF_FFFF_FFFF_FFFC),
-                link: false
-            })
-        )
-    );
-    assert!(rt;
-        matches!(
-            operation(0x4800_0009),
-            Some(Operation::Branch {
-                target: Target::Ahead(8),
-                link: true,
-                ..
-            })
-        )
-    );
-    // beq -8; bne 8; bdnz 16; bdz 16; bdnzf 30,8; bdzt 31,8
-    assert!(rt;
-        matches!(
-            operation(0x4182_FFF8),
-            Some(Operation::Branch {
-                counter: Kept,
-                condition: Bit {
-                    bit: 2,
-                    value: true
-                },
-                target: Target::Ahead(0xFFFF_FFFF_FFFF_FFF8),
-                link: false
-            })
-        )
-    );
-    assert!(rt;
-        matches!(
-            operation(0x4082_0008),
-            Some(Operation::Branch {
-                counter: Kept,
-                condition: Bit {
-                    bit: 2,
-                    value: false
-                },
-                ..
-            })
-        )
-    );
-    assert!(rt;
-        matches!(
-            operation(0x4200_0010),
-            Some(Operation::Branch {
-                counter: Lowered { zero: false },
-                condition: Always,
-                ..
-            })
-        )
-    );
-    assert!(rt;
-        matches!(
-            operation(0x4240_0010),
-            Some(Operation::Branch {
-                counter: Lowered { zero: true },
-                condition: Always,
-                ..
-            })
-        )
-    );
-    assert!(rt;
-        matches!(
-            operation(0x401E_0008),
-            Some(Operation::Branch {
-                counter: Lowered { zero: false },
-                condition: Bit {
-                    bit: 30,
-                    value: false
-                },
-                ..
-            })
-        )
-    );
-    assert!(rt;
-        matches!(
-            operation(0x415F_0008),
-            Some(Operation::Branch {
-                counter: Lowered { zero: true },
-                condition: Bit {
-                    bit: 31,
-                    value: true
-                },
-                ..
-            })
-        )
-    );
-    // blr, beqlrl, bctr, bctrl
-    assert!(rt;
-        matches!(
-            operation(0x4E80_0020),
-            Some(Operation::Branch {
-                counter: Kept,
-                condition: Always,
-                target: Target::Through(32),
-                link: false
-            })
-        )
-    );
-    assert!(rt;
-        matches!(
-            operation(0x4D82_0021),
-            Some(Operation::Branch {
-                condition: Bit {
-                    bit: 2,
-                    value: true
-                },
-                target: Target::Through(32),
-                link: true,
-                ..
-            })
-        )
-    );
-    assert!(rt;
-        matches!(
-            operation(0x4E80_0420),
-            Some(Operation::Branch {
-                target: Target::Through(33),
-                link: false,
-                ..
-            })
-        )
-    );
-    assert!(rt;
-        matches!(
-            operation(0x4E80_0421),
-            Some(Operation::Branch {
-                target: Target::Through(33),
-                link: true,
-                ..
-            })
-        )
-    );
+fn addresses_of_loads_and_stores(rt: HostRuntime) {
+    // ld 3,-8(4); ld 3,8(0); lwzx 3,0,5; stdu 1,-32(1); sth 12,-2(31)
+    planned! { rt;
+        0xE864_FFF8 => Operation::Load { to: 3, base: Operand::Register(4), offset: Operand::Fixed(0xFFFF_FFFF_FFFF_FFF8), .. },
+        0xE860_0008 => Operation::Load { to: 3, base: Operand::Fixed(0), offset: Operand::Fixed(8), .. },
+        0x7C60_282E => Operation::Load { to: 3, base: Operand::Fixed(0), offset: Operand::Register(5), .. },
+        0xF821_FFE1 => Operation::Store { width: Width::Long, from: 1, base: Operand::Register(1), update: Some(1), .. },
+        0xB19F_FFFE => Operation::Store { width: Width::Half, from: 12, base: Operand::Register(31), update: None, .. },
+    }
+}
+
+#[test]
+fn branches_by_a_displacement(rt: HostRuntime) {
+    // b -4; bl 8; beq -8; bne 8; bdnz 16; bdz 16; bdnzf 30,8; bdzt 31,8
+    planned! { rt;
+        0x4BFF_FFFC => Operation::Branch { counter: Kept, condition: Always, target: Ahead(0xFFFF_FFFF_FFFF_FFFC), link: false },
+        0x4800_0009 => Operation::Branch { counter: Kept, condition: Always, target: Ahead(8), link: true },
+        0x4182_FFF8 => Operation::Branch { counter: Kept, condition: Bit { bit: 2, value: true }, target: Ahead(0xFFFF_FFFF_FFFF_FFF8), link: false },
+        0x4082_0008 => Operation::Branch { counter: Kept, condition: Bit { bit: 2, value: false }, .. },
+        0x4200_0010 => Operation::Branch { counter: Lowered { zero: false }, condition: Always, .. },
+        0x4240_0010 => Operation::Branch { counter: Lowered { zero: true }, condition: Always, .. },
+        0x401E_0008 => Operation::Branch { counter: Lowered { zero: false }, condition: Bit { bit: 30, value: false }, .. },
+        0x415F_0008 => Operation::Branch { counter: Lowered { zero: true }, condition: Bit { bit: 31, value: true }, .. },
+    }
+}
+
+#[test]
+fn branches_through_a_register(rt: HostRuntime) {
+    // blr; beqlrl; bdnzlr; bctr; bctrl
+    planned! { rt;
+        0x4E80_0020 => Operation::Branch { counter: Kept, condition: Always, target: Through(32), link: false },
+        0x4D82_0021 => Operation::Branch { condition: Bit { bit: 2, value: true }, target: Through(32), link: true, .. },
+        0x4E00_0020 => Operation::Branch { counter: Lowered { zero: false }, target: Through(32), .. },
+        0x4E80_0420 => Operation::Branch { target: Through(33), link: false, .. },
+        0x4E80_0421 => Operation::Branch { target: Through(33), link: true, .. },
+    }
 }
 
 #[test]
 fn copies_keep_what_they_copy(rt: HostRuntime) {
-    // mr 31,3; mr. 31,3; nop; addi 3,4,0; mflr 0; mtctr 12
-    assert!(rt;
-        matches!(
-            operation(0x7C7F_1B78),
-            Some(Operation::Copy {
-                to: 31,
-                from: Operand::Register(3),
-                rc: false
-            })
-        )
-    );
-    assert!(rt;
-        matches!(
-            operation(0x7C7F_1B79),
-            Some(Operation::Copy { rc: true, .. })
-        )
-    );
-    assert!(rt;
-        matches!(
-            operation(0x6000_0000),
-            Some(Operation::Copy {
-                to: 0,
-                from: Operand::Register(0),
-                ..
-            })
-        )
-    );
-    assert!(rt;
-        matches!(
-            operation(0x3864_0000),
-            Some(Operation::Copy {
-                to: 3,
-                from: Operand::Register(4),
-                ..
-            })
-        )
-    );
-    assert!(rt;
-        matches!(
-            operation(0x7C08_02A6),
-            Some(Operation::Copy {
-                to: 0,
-                from: Operand::Register(32),
-                ..
-            })
-        )
-    );
-    assert!(rt;
-        matches!(
-            operation(0x7D89_03A6),
-            Some(Operation::Copy {
-                to: 33,
-                from: Operand::Register(12),
-                ..
-            })
-        )
-    );
-    // li 3,0 and oris 3,4,0 copy nothing
+    // mr 31,3; mr. 31,3; nop; addi 3,4,0; mflr 0; mfctr 12; mtlr 0; mtctr 12
+    planned! { rt;
+        0x7C7F_1B78 => Operation::Copy { to: 31, from: Operand::Register(3), rc: false },
+        0x7C7F_1B79 => Operation::Copy { to: 31, from: Operand::Register(3), rc: true },
+        0x6000_0000 => Operation::Copy { to: 0, from: Operand::Register(0), rc: false },
+        0x3864_0000 => Operation::Copy { to: 3, from: Operand::Register(4), rc: false },
+        0x7C08_02A6 => Operation::Copy { to: 0, from: Operand::Register(32), rc: false },
+        0x7D89_02A6 => Operation::Copy { to: 12, from: Operand::Register(33), rc: false },
+        0x7C08_03A6 => Operation::Copy { to: 32, from: Operand::Register(0), rc: false },
+        0x7D89_03A6 => Operation::Copy { to: 33, from: Operand::Register(12), rc: false },
+    }
+    // li 3,0 and oris 3,4,0 calculate
     assert_eq!(rt; calculated(0x3860_0000, 7, 7), Some(0));
     assert_eq!(rt; calculated(0x6483_0000, 7, 7), Some(7));
 }

@@ -170,7 +170,7 @@ fn a_word_of_another_form_is_none(rt: HostRuntime) {
         (0x3821_FFE0, 0x2000_0000),
     ];
     for (w, others) in table {
-        for place in 0..32 {
+        for place in 0..32u32 {
             if others >> place & 1 == 1 {
                 assert!(rt;
                     decode(w ^ 1 << place).is_none(),
