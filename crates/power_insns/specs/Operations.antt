@@ -1,9 +1,8 @@
 -- What each one-word instruction does, a line each, as an operation (Power ISA 3.1, book I, chapters 2 "Branch facility" and 3
 -- "Fixed-point facility", each instruction's page).
-use Rattle.std.specs.Prelude.{◌≡◌, ℕ, ℤ, pos, ◌+◌, ◌*◌, ◌*ℤ◌, ◌/◌, ◌%◌, ◌^◌, ◌<◌, ◌⊎◌, Bool, true, false, ◌&&◌, ◌==◌, nat_lt, if◌then◌else◌, Option, Some, None}
+use Rattle.std.specs.Prelude.{ℕ, pos, ◌+◌, ◌*◌, ◌*ℤ◌, ◌/◌, ◌%◌, ◌^◌, ◌<◌, Bool, true, false, ◌&&◌, ◌==◌, nat_lt, if◌then◌else◌, Option, Some, None}
 use Rattle.power_insns.specs.declared.meaning.Width.{Width}
 use Rattle.power_insns.specs.declared.meaning.Width.TheVariants.{Byte, Half, Word, Long}
-use Rattle.power_insns.specs.declared.meaning.Sign.{Sign}
 use Rattle.power_insns.specs.declared.meaning.Sign.TheVariants.{Unsigned, Signed}
 use Rattle.power_insns.specs.declared.meaning.Operand.{Operand}
 use Rattle.power_insns.specs.declared.meaning.Operand.TheVariants.{Register, Fixed, Here}

@@ -1,7 +1,7 @@
 -- The layouts of the one-word instructions, a line each: the fields in order from bit 0, the most significant, each with its
 -- number of bits and what it holds (Power ISA 3.1, book I, 1.6 "Instruction formats", and each instruction's own page).
 -- Fixed bits are fields too, and bits that the manual reserves hold 0.
-use Rattle.std.specs.Prelude.{◌≡◌, ℕ, ℤ, pos, ◌<◌, ◌/◌, ◌%◌, ◌^◌, ◌⊎◌, List, [], ◌∷◌}
+use Rattle.std.specs.Prelude.{◌≡◌, ℕ, ◌<◌, ◌/◌, ◌%◌, ◌^◌, ◌⊎◌, List, [], ◌∷◌}
 use Rattle.power_insns.specs.Words.{Field, fld, word, flag, low_of, InSigned, IsDisplacement}
 use Rattle.power_insns.specs.declared.instruction.Insn.{Insn}
 use Rattle.power_insns.specs.declared.instruction.Insn.TheVariants.{Mulli, Cmpli, Cmpi, Addi, Addis, Bc, Sc, B, Bclr, Bcctr, Rlwinm, Ori, Oris, Xori, Xoris, Andi, Andis, Rldicl, Rldicr, Lwz, Lbz, Lhz, Lha, Stw, Stb, Sth, Ld, Lwa, Std, Stdu, Cmp, Cmpl, Add, Subf, Neg, Mullw, Mulld, Divd, Divdu, And, Andc, Nor, Xor, Or, Slw, Srw, Sld, Srd, Extsb, Extsh, Extsw, Ldx, Lwzx, Lbzx, Lhzx, Lhax, Lwax, Stdx, Stwx, Stbx, Sthx, Mfspr, Mtspr}

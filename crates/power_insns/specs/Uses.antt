@@ -1,5 +1,5 @@
 -- What an operation reads, writes and does with memory.
-use Rattle.std.specs.Prelude.{◌≡◌, ℕ, ◌<◌, ◌⊎◌, Bool, true, false, Option, Some, None}
+use Rattle.std.specs.Prelude.{◌≡◌, ℕ, ◌⊎◌, Bool, true, false, Option, Some, None}
 use Rattle.power_insns.specs.declared.meaning.Operand.{Operand}
 use Rattle.power_insns.specs.declared.meaning.Operand.TheVariants.{Register, Fixed, Here}
 use Rattle.power_insns.specs.declared.meaning.Counter.{Counter}

@@ -5,7 +5,7 @@
 pub mod compute;
 pub mod decoding;
 pub mod encoding;
-pub mod extended;
+mod extended;
 pub mod forms;
 pub mod instruction;
 pub mod meaning;

@@ -1,5 +1,5 @@
 -- The powers of two of a mask: which is larger, and that they fit.
-use Rattle.std.proofs.Common.{◌+◌, ◌-◌, ◌<◌, ◌≤◌, ◌^◌, arith}
+use Rattle.std.proofs.Common.{◌-◌, ◌≤◌, ◌^◌, arith}
 use Rattle.std.proofs.lemmas.Nat.{pow_below, pow_pos}
 use Rattle.std.proofs.Math.Pow.{pow_mono}
 use Rattle.power_insns.proofs.compute.mask.Goals as goal
