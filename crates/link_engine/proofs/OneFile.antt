@@ -1,7 +1,7 @@
 -- A list of one file.
 use Rattle.std.proofs.Common.{◌≡◌, ℕ, List, [], ◌∷◌, length, get_or, arith, ap, sym}
-use Rattle.link_engine.specs.declared.files.FileBytes.{FileBytes}
-use Rattle.link_engine.specs.Link.{contents_of}
+use Rattle.object_set.specs.declared.files.FileBytes.{FileBytes}
+use Rattle.object_set.specs.Files.{contents_of}
 
 pub contents-one : (files : List FileBytes) (f : FileBytes) (b : List ℕ) → length files ≡ 1 → b ≡ (get_or files 0 f).bytes.items → contents_of files ≡ b ∷ []
 contents-one [] f b one is = absurd (omega arith)

@@ -1,17 +1,12 @@
 -- When a link is refused, and what it makes.
-use Rattle.std.specs.Prelude.{ℕ, ◌+◌, ◌*◌, ◌%◌, ◌≡◌, ◌≤◌, ◌⊎◌, Bool, ◌==◌, ◌&&◌, not, nat_le, nat_lt, List, [], ◌∷◌, length, map, Option, Some, None, if◌then◌else◌}
+use Rattle.std.specs.Prelude.{ℕ, ◌+◌, ◌*◌, ◌%◌, ◌≡◌, ◌≤◌, ◌⊎◌, Bool, ◌==◌, ◌&&◌, not, nat_le, nat_lt, List, [], ◌∷◌, length, Option, Some, None, if◌then◌else◌}
 use Rattle.ppc_bytes.specs.Bytes.{number_at}
 use Rattle.elf64_exec.specs.declared.layout.Segment.{Segment}
 use Rattle.elf64_exec.specs.Executable.{executable}
-use Rattle.link_engine.specs.declared.files.FileBytes.{FileBytes}
 use Rattle.link_engine.specs.declared.files.Options.{Options}
-use Rattle.link_engine.specs.declared.files.Refusal.{Refusal}
-use Rattle.link_engine.specs.declared.files.Refusal.TheVariants.{FileTooLong, NotElf, NotBuilt}
+use Rattle.object_set.specs.declared.refusal.Refusal.{Refusal}
+use Rattle.object_set.specs.declared.refusal.Refusal.TheVariants.{FileTooLong, NotElf, NotBuilt}
 use Rattle.link_engine.specs.Thin.{start_offset, text_of, is_thin}
-
--- the bytes of each file
-abbrev pub contents_of : List FileBytes → List (List ℕ)
-contents_of files = map (λ f. f.bytes.items) files
 
 -- the spans that may be asked for
 pub record InRange (o : Options) : Type 0 where

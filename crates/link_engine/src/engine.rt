@@ -1,11 +1,13 @@
 // One thin file becomes an executable.
 ghost use Rattle.std.specs.Prelude.{◌≡◌, ◌⊎◌, ◌≤◌, ◌<◌, [], ◌∷◌, length, Some, None, IfOk, IfErr, OnOk};
-ghost use Rattle.link_engine.specs.Link.{contents_of, InRange, first_refusal, file_refusal, image_of, image_at};
+ghost use Rattle.object_set.specs.Files.{contents_of};
+ghost use Rattle.link_engine.specs.Link.{InRange, first_refusal, file_refusal, image_of, image_at};
 ghost use Rattle.link_engine.specs.Thin.{start_offset, text_of};
 
-use crate::files::{FileBytes, Linked, Options, Refusal};
+use crate::files::{Linked, Options};
 use crate::thin::{Program, thin_program};
 use elf64_exec::{Segment, Segments, write_exec};
+use object_set::{FileBytes, Refusal};
 use ppc_bytes::{Bytes, Memory, Steps, has_magic};
 use std::alloc::Global;
 use std::sync::ledger::Ledger;

@@ -1,15 +1,4 @@
 // What a link takes and gives.
-use std::alloc::{AllocError, AllocFailed};
-
-/// An object file: its name, for messages, and its bytes.
-#[derive(Debug, Drop)]
-pub struct FileBytes {
-    /// The name that was given for it.
-    pub name: String,
-
-    /// Its bytes.
-    pub bytes: Vec<u8>,
-}
 
 /// How to link.
 #[derive(Debug, Drop)]
@@ -41,29 +30,4 @@ pub struct Linked {
 
     /// How many TOC slots were folded.
     pub folds: u64,
-}
-
-/// Why a link was refused; files are numbered from 0 as they were given.
-#[derive(Clone, Copy, Debug, PartialEq, Eq)]
-pub enum Refusal {
-    /// The file has more than 0x10000000 bytes.
-    FileTooLong(u32),
-    /// The file doesn't begin as an ELF file does.
-    NotElf(u32),
-    /// The file needs a part of linking that isn't built yet.
-    NotBuilt(u32),
-    /// Memory was refused.
-    Memory,
-}
-
-impl From<AllocError> for Refusal {
-    fn from(_: AllocError) -> Self {
-        Refusal::Memory
-    }
-}
-
-impl<T: Drop> From<AllocFailed<T>> for Refusal {
-    fn from(_: AllocFailed<T>) -> Self {
-        Refusal::Memory
-    }
 }

@@ -7,5 +7,6 @@ mod files;
 mod thin;
 
 pub use engine::link;
-pub use files::{FileBytes, Linked, Options, Refusal};
+pub use files::{Linked, Options};
+pub use object_set::{FileBytes, Refusal, Site};
 pub use ppc_bytes::Steps;

@@ -4,18 +4,17 @@ use Rattle.std.specs.Prelude.{string_bytes, map, slice_index_or, unwrap_or, nat_
 use Rattle.std.specs.declared.alloc.Global.{Global}
 use Rattle.std.proofs.lemmas.Bool.{cases_lt, lt-ltb}
 use Rattle.std.proofs.lemmas.List.{length-take-le}
-use Rattle.link_engine.specs.declared.files.Refusal.{Refusal}
-use Rattle.link_engine.specs.declared.files.Refusal.TheVariants.{FileTooLong, NotElf, NotBuilt}
-use Rattle.link_engine.specs.declared.files.Refusal.TheVariants.{Memory as Memory'}
-use Rattle.link_engine.specs.Thin.{is_thin}
+use Rattle.object_set.specs.declared.refusal.Refusal.{Refusal}
+use Rattle.object_set.specs.declared.refusal.Refusal.TheVariants.{FileTooLong}
+use Rattle.object_set.specs.declared.refusal.Refusal.TheVariants.{Memory as Memory'}
 use Rattle.ppc_bytes.specs.declared.memory.Memory.{Memory as NoMem}
 use Rattle.ppc_outside.specs.declared.outside.OutsideError.TheVariants.{Failed, Memory}
 use Rattle.ppclink.specs.declared.perform.Answer.{Answer}
 use Rattle.ppclink.specs.declared.perform.Answer.TheVariants.{Printed, Written, Unwritten, NoMemory}
-use Rattle.link_engine.specs.Link.{file_refusal, first_refusal, image_of, has_magic}
+use Rattle.link_engine.specs.Link.{file_refusal, first_refusal, image_of}
 use Rattle.ppc_outside.specs.Outside.{Files, Replaced}
 use Rattle.ppclink.specs.Requests.{Request, texts, link_to, out_of}
-use Rattle.ppclink.specs.Lines.{refusal_line, unread_line, IsOfFile}
+use Rattle.ppclink.specs.Lines.{refusal_line, unread_line}
 use Rattle.ppclink.specs.Outcomes.{Outcome, link_outcome, outcome_in, settled, or_missing, printed, written, outcome_of}
 use Rattle.ppclink.specs.Fetching.{HasRead, HaveRead, ManyCause, file_limit}
 use Rattle.ppclink.specs.declared.fetching.Unfetched.{Unfetched}
@@ -77,23 +76,6 @@ write_causes told told' f f' w w' out image request (Printed status text) named 
 pub same_files : (told : Option Files) → SameFiles told told
 same_files None = tt
 same_files (Some files) = λ name. refl
-
-some_same : {X : Type 0} {x y : X} → Some x ≡ Some y → x ≡ y
-some_same h = cc
-
-by_tests : (x y z : Bool) (r : Refusal) → cond x (Some (FileTooLong 0)) (cond y (Some (NotElf 0)) (cond z (Some (NotBuilt 0)) None)) ≡ Some r → IsOfFile 1 r
-by_tests true y z r h = subst (IsOfFile 1) (some_same h) (omega arith)
-by_tests false true z r h = subst (IsOfFile 1) (some_same h) (omega arith)
-by_tests false false true r h = subst (IsOfFile 1) (some_same h) (omega arith)
-by_tests false false false r h = cc
-
-refusal_of_file : (contents : List (List ℕ)) (r : Refusal) → first_refusal contents ≡ Some r → IsOfFile 1 r
-refusal_of_file [] r h = cc
-refusal_of_file (b ∷ rest) r h = by_tests (nat_lt 0x10000000 (length b)) (not (has_magic b)) (not (is_thin b)) r h
-
-pub names_a_file : (count : ℕ) (contents : List (List ℕ)) (r : Refusal) → count ≡ 1 → (r ≡ Memory') ⊎ (first_refusal contents ≡ Some r) → IsOfFile count r
-names_a_file count contents r one (inl memory) = subst (IsOfFile count) (sym memory) tt
-names_a_file count contents r one (inr h) = subst (λ n. IsOfFile n r) (sym one) (refusal_of_file contents r h)
 
 -- the line of a refusal, or want of memory for it
 pub refuse_causes : (told : Option Files) (f w : ℕ) (out : List ℕ) (names : List (String Global)) (contents : List (List ℕ)) (r : Refusal) (text : Result (Vec ℕ Global) NoMem) (a : Answer) → length names ≡ 1 → HaveRead told (texts names) contents → (r ≡ Memory') ⊎ (first_refusal contents ≡ Some r) → IfOk text (λ t. t.items ≡ refusal_line (texts names) r) → OnOk text (r ≢ Memory') → MatchResult text (λ t. a ≡ Printed 1 t) (λ e. a ≡ NoMemory) → Causes (outside told f w) (outside told f w) (Some (link_to out (texts names))) a

@@ -2,8 +2,8 @@
 use Rattle.std.proofs.Common.{◌≡◌, ℕ, zero, suc, ◌+◌, ◌<◌, ◌≤◌, ◌⊎◌, inl, inr, List, [], ◌∷◌, ◌++◌, length, take, get_or, Option, Some, None, refl, sym, ap, ◌∙◌, subst, arith, String, add-one}
 use Rattle.std.specs.Prelude.{string_bytes, map, slice_index_or}
 use Rattle.std.specs.declared.alloc.Global.{Global}
-use Rattle.link_engine.specs.declared.files.FileBytes.{FileBytes}
-use Rattle.link_engine.specs.Link.{contents_of}
+use Rattle.object_set.specs.declared.files.FileBytes.{FileBytes}
+use Rattle.object_set.specs.Files.{contents_of}
 use Rattle.ppc_outside.specs.Outside.{Files, Lacks, last_count}
 use Rattle.ppclink.specs.Requests.{texts}
 use Rattle.ppclink.specs.Outcomes.{first_missing, or_missing}

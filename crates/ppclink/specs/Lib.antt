@@ -4,3 +4,4 @@ pub mod Outcomes
 pub mod Fetching
 pub mod Causes
 pub mod Statuses
+pub mod Show

@@ -2,7 +2,7 @@
 use Rattle.std.specs.Prelude.{ℕ, ◌≡◌, List, [], ◌∷◌, ◌++◌, map, Option, Some, None, unwrap_or}
 use Rattle.ppc_outside.specs.Outside.{Files}
 use Rattle.link_engine.specs.Link.{first_refusal, image_of}
-use Rattle.link_engine.specs.declared.files.Refusal.{Refusal}
+use Rattle.object_set.specs.declared.refusal.Refusal.{Refusal}
 use Rattle.ppclink.specs.Requests.{Request, link_to, names_of}
 use Rattle.ppclink.specs.Lines.{refusal_line, unread_line}
 

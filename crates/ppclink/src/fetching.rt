@@ -1,6 +1,6 @@
 // Files are fetched before anything is checked.
 ghost use Rattle.std.specs.Prelude.{◌≡◌, ◌≤◌, length, OnOk, IfOk, IfErr};
-ghost use Rattle.link_engine.specs.Link.{contents_of};
+ghost use Rattle.object_set.specs.Files.{contents_of};
 ghost use Rattle.ppclink.specs.Requests.{texts};
 ghost use Rattle.ppclink.specs.Fetching.{HasRead, HaveRead, OneCause, ManyCause};
 

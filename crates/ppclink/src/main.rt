@@ -4,6 +4,7 @@
 mod fetching;
 mod lines;
 mod perform;
+mod show;
 #[cfg(test)]
 mod tests;
 mod top;

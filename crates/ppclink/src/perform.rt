@@ -4,7 +4,8 @@ ghost use Rattle.ppclink.specs.Requests.{request_of, texts, link_to};
 ghost use Rattle.ppclink.specs.Outcomes.{written};
 ghost use Rattle.ppclink.specs.Causes.{outside, Causes, AnswersReplace};
 ghost use Rattle.ppclink.specs.Fetching.{HaveRead};
-ghost use Rattle.link_engine.specs.Link.{contents_of, InRange};
+ghost use Rattle.object_set.specs.Files.{contents_of};
+ghost use Rattle.link_engine.specs.Link.{InRange};
 
 use crate::fetching::{Unfetched, fetch_files};
 use crate::lines::{refusal_line, unread_line, usage_line};
@@ -85,7 +86,7 @@ fn link_fetched<S: Store, L: Ledger>(
     };
     match link(alloc, files, &options, steps) {
         Ok(linked) => write_out(out, linked.image.as_slice(), store),
-        Err(refusal) => printed(1, refusal_line(alloc, names, refusal)),
+        Err(refusal) => printed(1, refusal_line(alloc, names, &refusal)),
     }
 }
 

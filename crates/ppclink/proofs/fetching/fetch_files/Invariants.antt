@@ -1,5 +1,5 @@
 use Rattle.std.proofs.Common.{◌≡◌, length, take}
-use Rattle.link_engine.specs.Link.{contents_of}
+use Rattle.object_set.specs.Files.{contents_of}
 use Rattle.ppclink.specs.Requests.{texts}
 use Rattle.ppclink.specs.Fetching.{HaveRead}
 use Rattle.ppclink.proofs.fetching.fetch_files.Given as goal
