@@ -1,12 +1,11 @@
 -- What the sections and symbols of a file have that isn't refused.
-use Rattle.std.specs.Prelude.{ℕ, ◌≡◌, ◌≢◌, ◌<◌, ◌≤◌, ◌⊎◌, ◌%◌, Bool, true, false, List, length, ◌||◌, if◌then◌else◌}
+use Rattle.std.specs.Prelude.{ℕ, ◌≡◌, ◌≢◌, ◌<◌, ◌≤◌, ◌%◌, true, false, List, length, ◌||◌}
 use Rattle.ppc_bytes.specs.Bytes.{IsPowerOfTwo}
 use Rattle.elf64_records.specs.FileHeader.{e_shnum}
 use Rattle.elf64_records.specs.Sections.{sh_type, sh_size, section_bytes}
 use Rattle.elf64_records.specs.Symbols.{st_value}
-use Rattle.object_set.specs.declared.sort.Sort.{Sort}
 use Rattle.object_set.specs.declared.sort.Sort.TheVariants.{Text, Zeroed, Toc}
-use Rattle.object_set.specs.Sections.{sort_of, is_kept_sort, align_of, is_kept_type}
+use Rattle.object_set.specs.Sections.{sort_of, align_of, is_kept_type}
 use Rattle.object_set.specs.Symbols.{is_local, is_global, is_weak, index_of, has_section, is_absolute, is_common, is_undefined, is_toc_base, lies_in_kept, lies_in_text, entry_points, has_entries}
 
 -- a kept section

@@ -1,5 +1,5 @@
 -- What is so in each file of a set: none of its sections and symbols is refused.
-use Rattle.std.proofs.Common.{◌≡◌, ◌≢◌, ℕ, zero, suc, ◌<◌, ◌≤◌, ◌⊎◌, ◌+◌, ◌-◌, ◌*◌, ◌/◌, ◌%◌, ◌^◌, Bool, true, false, cond, List, [], ◌∷◌, length, take, drop, length-drop, max, Option, Some, None, inl, inr, sym, ap, ◌∙◌, refl, add-zero, arith}
+use Rattle.std.proofs.Common.{◌≡◌, ◌≢◌, ℕ, zero, suc, ◌<◌, ◌≤◌, ◌⊎◌, ◌+◌, ◌-◌, ◌*◌, ◌/◌, ◌%◌, ◌^◌, Bool, true, false, List, [], ◌∷◌, length, take, drop, length-drop, max, Some, None, inl, inr, sym, ap, ◌∙◌, refl, add-zero, arith}
 use Rattle.std.specs.Prelude.{not, ◌&&◌, ◌||◌, nat_lt, if◌then◌else◌}
 use Rattle.std.proofs.lemmas.Bool.{cases_lt}
 use Rattle.std.proofs.lemmas.Bool.Decides.{nat_tests}
@@ -11,7 +11,7 @@ use Rattle.std.specs.Int.{is_power_of_two}
 use Rattle.std.specs.Int.RustNames.{count_ones}
 use Rattle.std.specs.Int.Count.{ones_step}
 use Rattle.ppc_bytes.specs.Bytes.{IsPowerOfTwo}
-use Rattle.elf64_records.specs.First.{◌orelse◌, when, first_from}
+use Rattle.elf64_records.specs.First.{◌orelse◌, first_from}
 use Rattle.elf64_records.specs.Laws.{both_none, walk_none}
 use Rattle.elf64_records.specs.FileHeader.{e_shnum}
 use Rattle.elf64_records.specs.Sections.{is_kept, sh_type, sh_size, sh_addralign, sh_offset, has_bytes, section_bytes}
@@ -19,11 +19,11 @@ use Rattle.elf64_records.specs.Symbols.{symbol_count, st_value}
 use Rattle.elf64_records.specs.Faults.{object_fault, first_section, range_fault, name_fault}
 use Rattle.elf64_records.specs.Whole.{sections_whole, section_in_file}
 use Rattle.object_set.specs.declared.sort.Sort.{Sort}
-use Rattle.object_set.specs.declared.sort.Sort.TheVariants.{Text, Zeroed, Toc, Writable, ReadOnly, Dropped}
+use Rattle.object_set.specs.declared.sort.Sort.TheVariants.{Text, Zeroed}
 use Rattle.object_set.specs.Files.{file_at}
 use Rattle.object_set.specs.Fit.{IsFitSection, IsFitSymbol}
 use Rattle.object_set.specs.Sections.{sort_of, is_kept_sort, is_text_sort, is_text, is_power_up_to, is_kept_type, is_unfit_text, is_unfit_toc, has_fit_align, align_of, kept_refusal, section_refusal}
-use Rattle.object_set.specs.Symbols.{binding, is_local, is_global, is_weak, index_of, is_undefined, is_absolute, is_common, has_section, lies_in_kept, lies_in_text, is_toc_base, entry_points, has_entries, has_unfit_entries, is_known_binding, is_known_index, is_unfit_symbol, symbol_refusal, value_refusal}
+use Rattle.object_set.specs.Symbols.{binding, is_local, index_of, is_undefined, is_common, has_section, lies_in_kept, lies_in_text, is_toc_base, entry_points, has_entries, has_unfit_entries, is_known_binding, is_known_index, is_unfit_symbol, symbol_refusal, value_refusal}
 use Rattle.object_set.specs.Refusals.{refusal_of, length_refusal, fault_refusal, sections_refusal, symbols_refusal, file_refusal, files_refusal, set_refusal}
 
 -- the section of a symbol that is fit by itself is one of the file

@@ -1,6 +1,6 @@
--- What sort a section of an object file is of, and what a link can't take (ELF64, "Section Header"; ELFv2 ABI, 3.3 "Special
+-- What sort a section of an object file is of, and what a link can't take (ELF64, "Section Header"; ELFv2 ABI, 3.2 "Special
 -- Sections").
-use Rattle.std.specs.Prelude.{ℕ, ◌%◌, Bool, true, false, not, List, ◌||◌, ◌&&◌, ◌==◌, nat_lt, nat_le, bit_and, max, codes, Option, None, if◌then◌else◌}
+use Rattle.std.specs.Prelude.{ℕ, ◌%◌, Bool, true, false, not, List, ◌||◌, ◌&&◌, ◌==◌, nat_le, bit_and, max, codes, Option, None, if◌then◌else◌}
 use Rattle.std.specs.Int.{is_power_of_two}
 use Rattle.std.specs.Str.{bytes_eq}
 use Rattle.elf64_records.specs.declared.fault.Place.TheVariants.{Section}
