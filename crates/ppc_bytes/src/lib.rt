@@ -8,6 +8,7 @@ mod ident;
 mod laws;
 mod memory;
 mod numbers;
+mod steps;
 
 pub use align::{align_up, fits_signed};
 pub use bytes::Bytes;
@@ -15,6 +16,7 @@ pub use ident::{has_magic, is_ppc64_le};
 pub use laws::{put_keeps_others, put_then_read};
 pub use memory::Memory;
 pub use numbers::{half_at, long_at, put_half, put_long, put_word, word_at};
+pub use steps::Steps;
 
 #[cfg(test)]
 mod tests;

@@ -1,7 +1,12 @@
+// Numbers, alignment and identification at known values.
+ghost use Rattle.std.specs.Prelude.{◌≡◌, ◌<◌};
+
 use crate::{
-    Bytes, align_up, fits_signed, half_at, has_magic, is_ppc64_le, long_at, put_half, put_long,
-    put_word, word_at,
+    Bytes, Steps, align_up, fits_signed, half_at, has_magic, is_ppc64_le, long_at, put_half,
+    put_long, put_word, word_at,
 };
+use std::marker::Brand;
+use std::sync::ledger::{Blank, Ledger};
 use std::test::Fail;
 
 const NUMBERS: [u8; 9] = [0x01, 0x02, 0x03, 0x04, 0x05, 0x06, 0x07, 0x08, 0x09];
@@ -59,4 +64,19 @@ fn a_header_is_identified(rt: HostRuntime) {
     assert!(rt; is_ppc64_le(&header));
     header[19] = 1;
     assert!(rt; !is_ppc64_le(&header));
+}
+
+fn two_steps<L: Ledger>(blank: Blank)
+    requires name { blank.name ≡ L.name }
+    requires parts { blank.parts ≡ L.parts }
+    requires some { 0 < L.parts }
+{
+    let mut steps = Steps::<L>::new(blank);
+    steps.tick();
+    steps.tick();
+}
+
+#[test]
+fn a_counter_is_made_and_ticks(_rt: HostRuntime) {
+    two_steps::<Brand>(Blank::new(1));
 }

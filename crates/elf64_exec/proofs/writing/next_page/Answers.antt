@@ -1,0 +1,5 @@
+use Rattle.std.proofs.Common.{refl}
+use Rattle.elf64_exec.proofs.writing.next_page.Goals as goal
+
+pub align_up-requires-clause-power : goal.align_up-requires-clause-power
+align_up-requires-clause-power c = (16, refl)

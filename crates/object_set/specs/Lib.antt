@@ -1,0 +1,6 @@
+pub mod Files
+pub mod Sections
+pub mod Symbols
+pub mod Refusals
+pub mod Fit
+pub mod Laws

@@ -1,0 +1,19 @@
+// The object files of a link, and what sort each of their sections is of: sections and symbols that a link can take, as the ELF64
+// object file format ("Section Header", "Symbol Table") and the ELFv2 ABI (3.3 "Special Sections", 3.4 "Symbol Table") have them. A
+// set is made of files that are all whole; else the first thing that is wrong is said.
+#![tactic(auto)]
+
+mod files;
+mod refusal;
+mod sections;
+mod set;
+mod sort;
+mod symbols;
+
+pub use files::FileBytes;
+pub use refusal::{Refusal, Site};
+pub use set::ObjectSet;
+pub use sort::Sort;
+
+#[cfg(test)]
+mod tests;

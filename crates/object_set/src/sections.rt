@@ -1,0 +1,120 @@
+// Which sections a link can't take.
+ghost use Rattle.std.specs.Prelude.{◌≡◌, ◌<◌, ◌-◌, true};
+ghost use Rattle.elf64_records.specs.First.{Refuses, first_from};
+ghost use Rattle.elf64_records.specs.FileHeader.{e_shnum};
+ghost use Rattle.elf64_records.specs.Sections.{is_kept};
+ghost use Rattle.object_set.specs.Sections.{kept_refusal, section_refusal, is_kept_type, is_power_up_to};
+ghost use Rattle.object_set.specs.Refusals.{sections_refusal};
+
+use crate::refusal::Refusal;
+use elf64_records::{ObjectView, Place};
+
+pub const SHF_WRITE: u64 = 0x1;
+
+pub const SHF_ALLOC: u64 = 0x2;
+
+pub const SHF_EXECINSTR: u64 = 0x4;
+
+pub const SHF_TLS: u64 = 0x400;
+
+pub const SHF_COMPRESSED: u64 = 0x800;
+
+pub const SHT_PROGBITS: u32 = 1;
+
+pub const SHT_NOTE: u32 = 7;
+
+pub const SHT_NOBITS: u32 = 8;
+
+pub const SHT_REL: u32 = 9;
+
+pub const SHT_INIT_ARRAY: u32 = 14;
+
+pub const SHT_FINI_ARRAY: u32 = 15;
+
+pub const SHT_GROUP: u32 = 17;
+
+pub const SHT_SYMTAB_SHNDX: u32 = 18;
+
+/// The name of the sections that are parts of the table of contents.
+pub const TOC: &[u8] = b".toc";
+
+/// The largest alignment, and that in the table of contents.
+pub const ALIGN_LIMIT: u64 = 0x1_0000;
+
+const TOC_ALIGN_LIMIT: u64 = 0x100;
+
+/// Whether an alignment is a power of two up to a limit.
+pub fn is_power_up_to(limit: u64, align: u64) -> bool
+    ensures { result ≡ is_power_up_to limit align }
+{
+    align.is_power_of_two() && align <= limit
+}
+
+/// Refuses a kept section with the first of its faults.
+#[tactic(auto, unfolding(crate::specs::Sections::kept_refusal))]
+fn check_kept(file: u32, view: &ObjectView, i: u32) -> Result<(), Refusal>
+    requires { i < e_shnum view.now }
+    ensures { Refuses result (kept_refusal file view.now i) }
+{
+    let section = view.section(i);
+    if !has_kept_type(section.kind) {
+        return Err(Refusal::BadSection(file, i));
+    }
+    if section.flags & SHF_COMPRESSED != 0 {
+        return Err(Refusal::Unsupported(file, Place::Section(i)));
+    }
+    let text = section.flags & SHF_EXECINSTR != 0;
+    let written = section.flags & SHF_WRITE != 0;
+    if text && (written || section.kind == SHT_NOBITS || section.size % 4 != 0) {
+        return Err(Refusal::BadSection(file, i));
+    }
+    let toc = section.name == TOC;
+    if toc && (text || section.kind != SHT_PROGBITS) {
+        return Err(Refusal::BadSection(file, i));
+    }
+    let limit = if toc { TOC_ALIGN_LIMIT } else { ALIGN_LIMIT };
+    if section.align != 0 && !is_power_up_to(limit, section.align) {
+        return Err(Refusal::BadAlign(file, Place::Section(i)));
+    }
+    Ok(())
+}
+
+/// Whether a kept section may have this type.
+fn has_kept_type(kind: u32) -> bool
+    ensures { result ≡ is_kept_type kind }
+{
+    matches!(
+        kind,
+        SHT_PROGBITS | SHT_NOTE | SHT_NOBITS | SHT_INIT_ARRAY | SHT_FINI_ARRAY
+    )
+}
+
+/// Refuses section `i` with the first of its faults.
+#[tactic(auto, unfolding(crate::specs::Sections::section_refusal))]
+fn check_section(file: u32, view: &ObjectView, i: u32) -> Result<(), Refusal>
+    requires { i < e_shnum view.now }
+    ensures { Refuses result (section_refusal file view.now i) }
+{
+    let section = view.section(i);
+    if matches!(section.kind, SHT_REL | SHT_GROUP | SHT_SYMTAB_SHNDX) {
+        return Err(Refusal::Unsupported(file, Place::Section(i)));
+    }
+    if i == 0 || section.flags & SHF_ALLOC == 0 {
+        return Ok(());
+    }
+    if section.flags & SHF_TLS != 0 {
+        return Err(Refusal::Tls(file, Place::Section(i)));
+    }
+    check_kept(file, view, i)
+}
+
+/// Refuses the sections of a file, from section 1 on, with the first of their faults.
+#[tactic(auto, using(elf64_records::specs::Laws::walk_step))]
+pub fn check_sections(file: u32, view: &ObjectView) -> Result<(), Refusal>
+    ensures { Refuses result (sections_refusal file view.now) }
+{
+    for i in 1..view.section_count() {
+        check_section(file, view, i)?;
+    }
+    Ok(())
+}

@@ -1,0 +1,46 @@
+// What sort a section is of.
+ghost use Rattle.std.specs.Prelude.{◌≡◌, ◌<◌};
+ghost use Rattle.elf64_records.specs.FileHeader.{e_shnum};
+ghost use Rattle.object_set.specs.Sections.{sort_of};
+
+use crate::sections::{SHF_ALLOC, SHF_EXECINSTR, SHF_WRITE, SHT_NOBITS, TOC};
+use elf64_records::ObjectView;
+
+/// What a link does with a section.
+#[derive(Clone, Copy, Debug, PartialEq, Eq)]
+pub enum Sort {
+    /// Instructions.
+    Text,
+    /// Data that is zero at the start, and has no bytes in the file.
+    Zeroed,
+    /// A part of the table of contents.
+    Toc,
+    /// Data that may be written.
+    Writable,
+    /// Data that is only read.
+    ReadOnly,
+    /// What isn't in memory: the section isn't kept.
+    Dropped,
+}
+
+/// The sort of section `i` of an object file.
+#[tactic(auto, unfolding(crate::specs::Sections::sort_of))]
+pub fn sort_of(view: &ObjectView, i: u32) -> Sort
+    requires { i < e_shnum view.now }
+    ensures { result ≡ sort_of view.now i }
+{
+    let section = view.section(i);
+    if i == 0 || section.flags & SHF_ALLOC == 0 {
+        Sort::Dropped
+    } else if section.flags & SHF_EXECINSTR != 0 {
+        Sort::Text
+    } else if section.kind == SHT_NOBITS {
+        Sort::Zeroed
+    } else if section.name == TOC {
+        Sort::Toc
+    } else if section.flags & SHF_WRITE != 0 {
+        Sort::Writable
+    } else {
+        Sort::ReadOnly
+    }
+}

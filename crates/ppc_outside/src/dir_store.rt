@@ -1,0 +1,185 @@
+// Real files. The store tells nothing of what they hold.
+ghost use Rattle.std.specs.Prelude.{◌≡◌, ◌≤◌, None, OnOk, OnErr, IfOk};
+ghost use Rattle.ppc_outside.specs.Appending.{AppendsAtMost};
+ghost use Rattle.ppc_outside.specs.System.{fetch_errors, replace_errors};
+
+use crate::outside::{OutsideError, Store};
+use std::fs;
+use std::fs::OpenOptions;
+use std::io::{ErrorKind, Read, Write};
+use std::os::unix::fs::OpenOptionsExt;
+use std::path::AsPath;
+use std::rt::Files;
+
+/// How many bytes are asked of a file at once.
+const CHUNK: usize = 0x4000;
+
+/// How many names are tried for the new file that is written beside an old one.
+const NAMES: u32 = 100;
+
+/// The permission bits of an executable, before the umask.
+const MODE: u32 = 0o777;
+
+/// Files of the operating system, under any runtime that has files. It counts the errors of each call.
+#[derive(Drop)]
+pub struct DirStore<R: Files + AllocGlobal + Drop> {
+    rt: R,
+    faults: u64,
+    write_faults: u64,
+}
+
+// Appends what one read gives, of at most `room` bytes: how many bytes came, which is 0 at the file's end.
+fn read_some<F: Read>(file: &mut F, room: usize, into: &mut Vec<u8>) -> Result<usize, OutsideError>
+    ensures ok { IfOk result (λ count. AppendsAtMost into.old.items into.new.items count) }
+    ensures bound { IfOk result (λ count. count ≤ room) }
+    ensures err { OnErr result (into.new.items ≡ into.old.items) }
+{
+    let mut buffer = [0u8; CHUNK];
+    let asked = room.min(CHUNK);
+    match file.read(&mut buffer[..asked]) {
+        Ok(count) => match into.extend_from_slice(&buffer[..count]) {
+            Ok(()) => Ok(count),
+            Err(_) => Err(OutsideError::Memory),
+        },
+        Err(_) => Err(OutsideError::Failed),
+    }
+}
+
+// Appends a file's first bytes. Each turn takes at least one byte but the last, which finds the end or an error.
+fn read_front<F: Read>(file: &mut F, limit: usize, into: &mut Vec<u8>) -> Result<(), OutsideError>
+    ensures ok { OnOk result (AppendsAtMost into.old.items into.new.items limit) }
+    ensures err { OnErr result (into.new.items ≡ into.old.items) }
+{
+    let start = into.len();
+    let mut taken = 0;
+    for _turn in 0..limit {
+        match read_some(file, limit - taken, into) {
+            Ok(0) => break,
+            Ok(count) => taken += count,
+            Err(error) => {
+                into.truncate(start);
+                return Err(error);
+            }
+        }
+    }
+    Ok(())
+}
+
+// Writes the bytes to a file that is there and is no regular file, such as a device.
+fn write_in_place<R: Files>(rt: &R, name: &str, bytes: &[u8]) -> Result<(), OutsideError> {
+    match OpenOptions::new().write(true).open(rt, name) {
+        Ok(mut file) => match file.write_all(bytes) {
+            Ok(()) => Ok(()),
+            Err(_) => Err(OutsideError::Failed),
+        },
+        Err(_) => Err(OutsideError::Failed),
+    }
+}
+
+// Makes a new file beside the named one, and answers its name with it.
+fn create_beside<R: Files + AllocGlobal>(
+    rt: &R,
+    name: &str,
+) -> Result<(String, R::File), OutsideError> {
+    for number in 0..NAMES {
+        let Ok(beside) = format!(in rt.alloc(); "{name}.ppclink{number}") else {
+            return Err(OutsideError::Memory);
+        };
+        let opened = OpenOptions::new()
+            .write(true)
+            .create_new(true)
+            .mode(MODE)
+            .open(rt, beside.as_str());
+        match opened {
+            Ok(file) => return Ok((beside, file)),
+            Err(error) if error.kind() == ErrorKind::AlreadyExists => {}
+            Err(_) => return Err(OutsideError::Failed),
+        }
+    }
+    Err(OutsideError::Failed)
+}
+
+// Writes the bytes to a new file beside the named one and renames it, so that the name holds the old bytes or the new ones.
+fn write_beside<R: Files + AllocGlobal>(
+    rt: &R,
+    name: &str,
+    bytes: &[u8],
+) -> Result<(), OutsideError> {
+    let (beside, mut file) = create_beside(rt, name)?;
+    let written = file.write_all(bytes).is_ok();
+    drop(file);
+    if written && fs::rename(rt, beside.as_str(), name).is_ok() {
+        return Ok(());
+    }
+    let _ = fs::remove_file(rt, beside.as_str());
+    Err(OutsideError::Failed)
+}
+
+impl<R: Files + AllocGlobal + Drop> DirStore<R> {
+    /// The files that the runtime has, with no error so far.
+    pub fn new(rt: R) -> DirStore<R>
+        ensures faults { fetch_errors result ≡ 0 }
+        ensures write_faults { replace_errors result ≡ 0 }
+    {
+        DirStore {
+            rt,
+            faults: 0,
+            write_faults: 0,
+        }
+    }
+
+    fn read_file(&self, name: &str, limit: usize, into: &mut Vec<u8>) -> Result<(), OutsideError>
+        ensures ok { OnOk result (AppendsAtMost into.old.items into.new.items limit) }
+        ensures err { OnErr result (into.new.items ≡ into.old.items) }
+    {
+        match OpenOptions::new().read(true).open(&self.rt, name) {
+            Ok(mut file) => read_front(&mut file, limit, into),
+            Err(_) => Err(OutsideError::Failed),
+        }
+    }
+
+    // A name that stands for no regular file, such as that of a device, is written in place and never replaced; a link
+    // is followed to what it leads to.
+    fn write_file(&self, name: &str, bytes: &[u8]) -> Result<(), OutsideError> {
+        match fs::symlink_metadata(&self.rt, name) {
+            Ok(found) if found.is_symlink() => self.write_linked(name, bytes),
+            Ok(found) if !found.is_file() => write_in_place(&self.rt, name, bytes),
+            _ => write_beside(&self.rt, name, bytes),
+        }
+    }
+
+    fn write_linked(&self, name: &str, bytes: &[u8]) -> Result<(), OutsideError> {
+        let Ok(path) = fs::canonicalize(&self.rt, name) else {
+            return write_in_place(&self.rt, name, bytes);
+        };
+        let target = path.path_text();
+        match fs::metadata(&self.rt, target) {
+            Ok(found) if found.is_file() => write_beside(&self.rt, target, bytes),
+            _ => write_in_place(&self.rt, name, bytes),
+        }
+    }
+}
+
+impl<R: Files + AllocGlobal + Drop> Store for DirStore<R> {
+    ghost told = { λ _. None };
+
+    ghost faults = { λ s. fetch_errors s };
+
+    ghost write_faults = { λ s. replace_errors s };
+
+    fn fetch(&mut self, name: &str, limit: usize, into: &mut Vec<u8>) -> Result<(), OutsideError> {
+        let result = self.read_file(name, limit, into);
+        if let Err(OutsideError::Failed) = result {
+            self.faults = self.faults.saturating_add(1);
+        }
+        result
+    }
+
+    fn replace(&mut self, name: &str, bytes: &[u8]) -> Result<(), OutsideError> {
+        let result = self.write_file(name, bytes);
+        if let Err(OutsideError::Failed) = result {
+            self.write_faults = self.write_faults.saturating_add(1);
+        }
+        result
+    }
+}

@@ -1,0 +1,67 @@
+// Files are fetched before anything is checked.
+ghost use Rattle.std.specs.Prelude.{◌≡◌, ◌≤◌, length, OnOk, IfOk, IfErr};
+ghost use Rattle.link_engine.specs.Link.{contents_of};
+ghost use Rattle.ppclink.specs.Requests.{texts};
+ghost use Rattle.ppclink.specs.Fetching.{HasRead, HaveRead, OneCause, ManyCause};
+
+use link_engine::FileBytes;
+use ppc_outside::{OutsideError, Store};
+use std::alloc::Global;
+
+/// How many bytes an object file may have.
+const FILE_LIMIT: usize = 0x1000_0000;
+
+/// Why files weren't fetched.
+#[derive(Clone, Copy, Debug)]
+pub enum Unfetched {
+    /// The file with this number couldn't be read.
+    Failed(usize),
+    /// Memory was refused.
+    Memory,
+}
+
+// Fetches one file, with one byte more than it may have.
+fn fetch_file<S: Store>(alloc: Global, name: &str, store: &mut S) -> Result<FileBytes, OutsideError>
+    ensures told { S.told store.new ≡ S.told store.old }
+    ensures write_faults { S.write_faults store.new ≡ S.write_faults store.old }
+    ensures ok { IfOk result (λ file. HasRead (S.told store.old) name.now file.bytes.items) }
+    ensures ok_faults { OnOk result (S.faults store.new ≡ S.faults store.old) }
+    ensures cause { IfErr result (OneCause (S.told store.old) name.now (S.faults store.old) (S.faults store.new)) }
+{
+    let mut bytes = Vec::new(alloc);
+    let Ok(owned) = String::from_str(alloc, name) else {
+        return Err(OutsideError::Memory);
+    };
+    match store.fetch(name, FILE_LIMIT + 1, &mut bytes) {
+        Ok(()) => Ok(FileBytes { name: owned, bytes }),
+        Err(OutsideError::Failed) => Err(OutsideError::Failed),
+        Err(OutsideError::Memory) => Err(OutsideError::Memory),
+    }
+}
+
+/// Fetches the files of these names in order.
+pub fn fetch_files<S: Store>(
+    alloc: Global,
+    names: &[String],
+    store: &mut S,
+) -> Result<Vec<FileBytes>, Unfetched>
+    ensures told { S.told store.new ≡ S.told store.old }
+    ensures write_faults { S.write_faults store.new ≡ S.write_faults store.old }
+    ensures ok { IfOk result (λ files. HaveRead (S.told store.old) (texts names.now) (contents_of files.items)) }
+    ensures count { IfOk result (λ files. length files.items ≡ length names.now) }
+    ensures ok_faults { OnOk result (S.faults store.new ≡ S.faults store.old) }
+    ensures cause { IfErr result (ManyCause (S.told store.old) (texts names.now) (S.faults store.old) (S.faults store.new)) }
+{
+    let mut files = Vec::new(alloc);
+    for (i, name) in names.iter().enumerate() {
+        match fetch_file(alloc, name.as_str(), store) {
+            Ok(file) => match files.push(file) {
+                Ok(()) => {}
+                Err(_) => return Err(Unfetched::Memory),
+            },
+            Err(OutsideError::Failed) => return Err(Unfetched::Failed(i)),
+            Err(OutsideError::Memory) => return Err(Unfetched::Memory),
+        }
+    }
+    Ok(files)
+}
