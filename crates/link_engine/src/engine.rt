@@ -66,8 +66,8 @@ fn image(alloc: Global, start: u64, text: &[u8]) -> Result<Vec<u8>, Memory>
     write_exec(alloc, &segments)
 }
 
-// The bytes of the only file.
-fn only(files: &[FileBytes]) -> &[u8]
+/// The bytes of the only file.
+pub fn only(files: &[FileBytes]) -> &[u8]
     requires { length files.now ≡ 1 }
     ensures { contents_of files.now ≡ result.now ∷ [] }
 {

@@ -6,7 +6,7 @@ mod engine;
 mod files;
 mod thin;
 
-pub use engine::link;
+pub use engine::{link, only};
 pub use files::{Linked, Options};
 pub use object_set::{FileBytes, Refusal, Site};
 pub use ppc_bytes::Steps;

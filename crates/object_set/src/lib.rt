@@ -12,7 +12,7 @@ mod symbols;
 
 pub use files::FileBytes;
 pub use refusal::{Refusal, Site};
-pub use set::ObjectSet;
+pub use set::{ObjectSet, refusal_of};
 pub use sort::Sort;
 
 #[cfg(test)]

@@ -36,7 +36,7 @@ impl<'a> Model for ObjectSet<'a> {
 }
 
 /// The refusal of a file that has a fault.
-fn refusal_of(file: u32, fault: ElfFault) -> Refusal
+pub fn refusal_of(file: u32, fault: ElfFault) -> Refusal
     ensures { result ≡ refusal_of file fault }
 {
     match fault {

@@ -13,14 +13,14 @@ use Rattle.ppclink.specs.declared.perform.Answer.{Answer}
 use Rattle.ppclink.specs.declared.perform.Answer.TheVariants.{Printed, Written, Unwritten, NoMemory}
 use Rattle.link_engine.specs.Link.{file_refusal, first_refusal, image_of}
 use Rattle.ppc_outside.specs.Outside.{Files, Replaced}
-use Rattle.ppclink.specs.Requests.{Request, texts, link_to, out_of}
+use Rattle.ppclink.specs.Requests.{Request, texts, link_to, show_file, names_of, out_of, IsLink}
 use Rattle.ppclink.specs.Lines.{refusal_line, unread_line}
 use Rattle.ppclink.specs.Outcomes.{Outcome, link_outcome, outcome_in, settled, or_missing, printed, written, outcome_of}
 use Rattle.ppclink.specs.Fetching.{HasRead, HaveRead, ManyCause, file_limit}
 use Rattle.ppclink.specs.declared.fetching.Unfetched.{Unfetched}
 use Rattle.ppclink.specs.declared.fetching.Unfetched.TheVariants as unfetched
 use Rattle.ppclink.proofs.Reading.{length-texts}
-use Rattle.ppclink.specs.Causes.{Comes, Causes, SameFiles, AnswersReplace, outside}
+use Rattle.ppclink.specs.Causes.{Comes, Causes, SameFiles, AnswersReplace, Unread, outside}
 
 too_long : (b : List ℕ) → file_limit < length b → file_refusal 0 b ≡ Some (FileTooLong 0)
 too_long b long = rw (lt-ltb 0x10000000 (length b) long)
@@ -67,11 +67,11 @@ kept None (Some new) out image h = absurd h
 kept (Some old) None out image h = absurd h
 kept (Some old) (Some new) out image h = h
 
-pub write_causes : (told told' : Option Files) (f f' w w' : ℕ) (out image : List ℕ) (request : Request) (a : Answer) → out ≡ out_of request → Comes told request (written out image) → AnswersReplace told told' out image f f' w w' a → Causes (outside told f w) (outside told' f' w') (Some request) a
-write_causes told told' f f' w w' out image request Written named is h = record { faults = h.0; write_faults = h.1; image = (image, subst (λ o. Comes told request (written o image)) named is, subst (λ o. Replaced told told' o image (Ok tt)) named h.2) }
-write_causes told told' f f' w w' out image request Unwritten named is h = record { faults = h.0; write_faults = h.1; image = (image, subst (λ o. Comes told request (written o image)) named is, subst (λ o. Replaced told told' o image (Err Failed)) named h.2) }
-write_causes told told' f f' w w' out image request NoMemory named is h = (omega (arith, h.0), h.1, kept told told' out image h.2)
-write_causes told told' f f' w w' out image request (Printed status text) named is h = absurd h
+pub write_causes : (told told' : Option Files) (f f' w w' : ℕ) (out image : List ℕ) (request : Request) (a : Answer) → IsLink request → out ≡ out_of request → Comes told request (written out image) → AnswersReplace told told' out image f f' w w' a → Causes (outside told f w) (outside told' f' w') (Some request) a
+write_causes told told' f f' w w' out image request Written links named is h = record { links = links; faults = h.0; write_faults = h.1; image = (image, subst (λ o. Comes told request (written o image)) named is, subst (λ o. Replaced told told' o image (Ok tt)) named h.2) }
+write_causes told told' f f' w w' out image request Unwritten links named is h = record { links = links; faults = h.0; write_faults = h.1; image = (image, subst (λ o. Comes told request (written o image)) named is, subst (λ o. Replaced told told' o image (Err Failed)) named h.2) }
+write_causes told told' f f' w w' out image request NoMemory links named is h = (omega (arith, h.0), h.1, kept told told' out image h.2)
+write_causes told told' f f' w w' out image request (Printed status text) links named is h = absurd h
 
 pub same_files : (told : Option Files) → SameFiles told told
 same_files None = tt
@@ -84,7 +84,7 @@ refuse_causes told f w out names contents r (Ok t) a one read (inl memory) line 
 refuse_causes told f w out names contents r (Ok t) a one read (inr h) line stated is =
     let printed-is = comes_printed told out names contents r one read h in
     let here = subst (λ l. Comes told (link_to out (texts names)) (printed 1 l)) (sym line) printed-is in
-    subst (λ b. Causes (outside told f w) (outside told f w) (Some (link_to out (texts names))) b) (sym is) (record { told = refl; write_faults = refl; faults = omega arith }, inr (refl, refl, here))
+    subst (λ b. Causes (outside told f w) (outside told f w) (Some (link_to out (texts names))) b) (sym is) (record { told = refl; write_faults = refl; faults = omega arith }, inr (omega arith, refl, here))
 
 -- the name with a number, as its bytes
 index-texts : (names : List (String Global)) (i : ℕ) (d : String Global) → i < length names → slice_index_or (texts names) i [] ≡ string_bytes (get_or names i d)
@@ -92,17 +92,20 @@ index-texts [] i d lt = absurd (omega arith)
 index-texts (n ∷ names) zero d lt = refl
 index-texts (n ∷ names) (suc i) d lt = index-texts names i d (omega arith)
 
-same_told : (told told' : Option Files) → told' ≡ told → SameFiles told told'
+pub same_told : (told told' : Option Files) → told' ≡ told → SameFiles told told'
 same_told told told' h = subst (SameFiles told) (sym h) (same_files told)
 
 -- the line for a file that can't be read, or want of memory for it
-pub unread_causes : (told told' : Option Files) (f f' w w' i : ℕ) (e : Unfetched) (out line : List ℕ) (names : List (String Global)) (name : String Global) (text : Result (Vec ℕ Global) NoMem) (a : Answer) → e ≡ unfetched.Failed i → told' ≡ told → w' ≡ w → line ≡ string_bytes (get_or names i name) → ManyCause told (texts names) f f' e → IfOk text (λ t. t.items ≡ unread_line line) → MatchResult text (λ t. a ≡ Printed 3 t) (λ e. a ≡ NoMemory) → Causes (outside told f w) (outside told' f' w') (Some (link_to out (texts names))) a
-unread_causes told told' f f' w w' i e out line names name (Err n) a failed same-told same-write line-is cause text is =
+pub unread_causes : (told told' : Option Files) (f f' w w' i : ℕ) (e : Unfetched) (request : Request) (line : List ℕ) (names : List (String Global)) (name : String Global) (text : Result (Vec ℕ Global) NoMem) (a : Answer) → names_of request ≡ texts names → e ≡ unfetched.Failed i → told' ≡ told → w' ≡ w → line ≡ string_bytes (get_or names i name) → ManyCause told (texts names) f f' e → IfOk text (λ t. t.items ≡ unread_line line) → MatchResult text (λ t. a ≡ Printed 3 t) (λ e. a ≡ NoMemory) → Causes (outside told f w) (outside told' f' w') (Some request) a
+unread_causes told told' f f' w w' i e request line names name (Err n) a asked failed same-told same-write line-is cause text is =
     let c = subst (ManyCause told (texts names) f f') failed cause in
-    subst (λ b. Causes (outside told f w) (outside told' f' w') (Some (link_to out (texts names))) b) (sym is) (c.1, same-write, same_told told told' same-told)
-unread_causes told told' f f' w w' i e out line names name (Ok t) a failed same-told same-write line-is cause text is =
+    subst (λ b. Causes (outside told f w) (outside told' f' w') (Some request) b) (sym is) (c.1, same-write, same_told told told' same-told)
+unread_causes told told' f f' w w' i e request line names name (Ok t) a asked failed same-told same-write line-is cause text is =
     let c = subst (ManyCause told (texts names) f f') failed cause in
     let lt : i < length names = subst (λ n. i < n) (length-texts names) c.0 in
     let named : t.items ≡ unread_line (slice_index_or (texts names) i []) = text ∙ ap unread_line (line-is ∙ sym (index-texts names i name lt)) in
-    subst (λ b. Causes (outside told f w) (outside told' f' w') (Some (link_to out (texts names))) b) (sym is)
-    (record { told = same-told; write_faults = same-write; faults = c.1 }, inl (refl, (i, named, record { among = c.0; cause = c.2 })))
+    let unread : Unread (outside told f w) (outside told' f' w') (texts names) i = record { among = c.0; cause = c.2 } in
+    subst (λ b. Causes (outside told f w) (outside told' f' w') (Some request) b) (sym is) (
+      record { told = same-told; write_faults = same-write; faults = c.1 },
+      inl (refl, (i, named ∙ ap (λ ns. unread_line (slice_index_or ns i [])) (sym asked), subst (λ ns. Unread (outside told f w) (outside told' f' w') ns i) (sym asked) unread)),
+    )

@@ -5,10 +5,10 @@ use Rattle.ppc_outside.specs.declared.outside.OutsideError.{OutsideError}
 use Rattle.ppc_outside.specs.declared.outside.OutsideError.TheVariants.{Failed, Memory}
 use Rattle.ppclink.specs.declared.perform.Answer.{Answer}
 use Rattle.ppclink.specs.declared.perform.Answer.TheVariants.{Printed, Written, Unwritten, NoMemory}
-use Rattle.ppclink.specs.Requests.{Request, names_of, out_of}
+use Rattle.ppclink.specs.Requests.{Request, names_of, out_of, IsLink}
 use Rattle.ppclink.specs.Lines.{usage_line, unread_line}
 use Rattle.ppclink.specs.Fetching.{IsFirstMissing}
-use Rattle.ppclink.specs.Outcomes.{Outcome, printed, written, outcome_of, outcome_in}
+use Rattle.ppclink.specs.Outcomes.{Outcome, printed, written, outcome_of, outcome_in, show_outcome, view_refusal}
 
 -- a store at one moment
 pub record Outside : Type 0 where
@@ -47,10 +47,11 @@ abbrev pub PrintCause : Outside → Outside → Option Request → ℕ → List 
 PrintCause old new None status text = (status ≡ 2) × (text ≡ usage_line) × (new ≡ old)
 PrintCause old new (Some request) status text =
     ((status ≡ 3) × ((i : ℕ) × (text ≡ unread_line (slice_index_or (names_of request) i [])) × Unread old new (names_of request) i))
-    ⊎ ((status ≡ 1) × (new.faults ≡ old.faults) × Comes old.told request (printed status text))
+    ⊎ ((status ≤ 1) × (new.faults ≡ old.faults) × Comes old.told request (printed status text))
 
 -- the request came to an executable, and the store was asked to hold it
 pub record Writes (old new : Outside) (request : Request) (answer : Result (Unit {0}) OutsideError) : Type 0 where
+  pub links : IsLink request
   pub faults : new.faults ≡ old.faults
   pub write_faults : FaultCause old.write_faults new.write_faults answer
   pub image : (image : List ℕ) × Comes old.told request (written (out_of request) image) × Replaced old.told new.told (out_of request) image answer
@@ -72,3 +73,10 @@ AnswersReplace told told' out image f f' w w' Written = (f' ≡ f) × (w' ≡ w)
 AnswersReplace told told' out image f f' w w' Unwritten = (f' ≡ f) × HasRisen w w' × Replaced told told' out image (Err Failed)
 AnswersReplace told told' out image f f' w w' NoMemory = (f' ≡ f) × (w' ≡ w) × Replaced told told' out image (Err Memory)
 AnswersReplace told told' out image f f' w w' (Printed status text) = ⊥
+
+-- why a file is shown so
+abbrev pub AnswersShow : List (List ℕ) → List ℕ → Answer → Type 0
+AnswersShow names b (Printed status text) = show_outcome names b (view_refusal b) ≡ printed status text.items
+AnswersShow names b NoMemory = Unit {0}
+AnswersShow names b Written = ⊥
+AnswersShow names b Unwritten = ⊥

@@ -3,7 +3,10 @@ use Rattle.std.specs.Prelude.{ℕ, ◌≡◌, List, [], ◌∷◌, ◌++◌, map
 use Rattle.ppc_outside.specs.Outside.{Files}
 use Rattle.link_engine.specs.Link.{first_refusal, image_of}
 use Rattle.object_set.specs.declared.refusal.Refusal.{Refusal}
-use Rattle.ppclink.specs.Requests.{Request, link_to, names_of}
+use Rattle.ppclink.specs.Requests.{Request, link_to, show_file, names_of}
+use Rattle.elf64_records.specs.First.{◌orelse◌}
+use Rattle.object_set.specs.Refusals.{length_refusal, fault_refusal}
+use Rattle.ppclink.specs.Show.{shown}
 use Rattle.ppclink.specs.Lines.{refusal_line, unread_line}
 
 -- a status with the text that is printed, or a file that is written
@@ -16,9 +19,20 @@ abbrev pub link_outcome : List ℕ → List (List ℕ) → List (List ℕ) → O
 link_outcome out names contents (Some refusal) = printed 1 (refusal_line names refusal)
 link_outcome out names contents None = written out (image_of contents)
 
+-- why an object file can't be shown
+abbrev pub view_refusal : List ℕ → Option Refusal
+view_refusal b = length_refusal 0 b orelse fault_refusal 0 b
+
+-- a file that is shown
+abbrev pub show_outcome : List (List ℕ) → List ℕ → Option Refusal → Outcome
+show_outcome names b (Some refusal) = printed 1 (refusal_line names refusal)
+show_outcome names b None = printed 0 (shown b)
+
 -- what a request comes to where the files that it names have these contents
 abbrev pub outcome_of : Request → List (List ℕ) → Outcome
 outcome_of (link_to out files) contents = link_outcome out files contents (first_refusal contents)
+outcome_of (show_file files) [] = printed 0 []
+outcome_of (show_file files) (b ∷ contents) = show_outcome files b (view_refusal b)
 
 -- a file that can't be read comes before all else
 abbrev pub settled : Option (List ℕ) → Outcome → Outcome

@@ -3,11 +3,12 @@ use Rattle.std.specs.Prelude.{ℕ, ◌≡◌, Bool, true, false, ◌==◌, ◌&&
 use Rattle.std.specs.Str.{bytes_eq}
 use Rattle.std.specs.declared.alloc.Global.{Global}
 use Rattle.ppclink.specs.declared.words.Command.{Command}
-use Rattle.ppclink.specs.declared.words.Command.TheVariants.{Link}
+use Rattle.ppclink.specs.declared.words.Command.TheVariants.{Link, Show}
 
 -- what is asked for; names are their bytes
 pub data Request : Type 0 where
   link_to : (out : List ℕ) (files : List (List ℕ)) → Request
+  show_file : (files : List (List ℕ)) → Request
 
 -- the words as their bytes
 abbrev pub texts : List (String Global) → List (List ℕ)
@@ -18,25 +19,36 @@ abbrev pub is_file_name : List ℕ → Bool
 is_file_name [] = false
 is_file_name (c ∷ rest) = not (c == 0x2D)
 
--- the grammar: link -o OUT FILE
+-- the grammar: link -o OUT FILE, and show FILE
 abbrev pub request_of : List (List ℕ) → Option Request
 request_of (command ∷ option ∷ out ∷ file ∷ []) =
     if bytes_eq command (codes "link") && bytes_eq option (codes "-o") && is_file_name out && is_file_name file
     then Some (link_to out (file ∷ [])) else None
+request_of (command ∷ file ∷ []) =
+    if bytes_eq command (codes "show") && is_file_name file then Some (show_file (file ∷ [])) else None
 request_of words = None
 
 -- the files that a request fetches, in this order
 abbrev pub names_of : Request → List (List ℕ)
 names_of (link_to out files) = files
+names_of (show_file files) = files
 
 -- the file that a request writes
 abbrev pub out_of : Request → List ℕ
 out_of (link_to out files) = out
+out_of (show_file files) = []
+
+-- the request writes a file
+abbrev pub IsLink : Request → Type 0
+IsLink (link_to out files) = Unit {0}
+IsLink (show_file files) = ⊥
 
 -- what a command that was read asks for
 abbrev pub meaning : Command → Request
 meaning (Link out files) = link_to out.now (texts files.now)
+meaning (Show files) = show_file (texts files.now)
 
--- a link has one file
+-- a command has one file
 abbrev pub HasFiles : Command → Type 0
 HasFiles (Link out files) = length files.now ≡ 1
+HasFiles (Show files) = length files.now ≡ 1

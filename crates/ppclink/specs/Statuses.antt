@@ -5,7 +5,7 @@ use Rattle.ppc_outside.specs.declared.outside.OutsideError.{OutsideError}
 use Rattle.ppc_outside.specs.declared.outside.OutsideError.TheVariants.{Failed, Memory}
 use Rattle.ppclink.specs.declared.perform.Answer.{Answer}
 use Rattle.ppclink.specs.declared.perform.Answer.TheVariants.{Printed, Written, Unwritten, NoMemory}
-use Rattle.ppclink.specs.Requests.{Request, names_of, out_of}
+use Rattle.ppclink.specs.Requests.{Request, names_of, out_of, link_to, show_file, IsLink}
 use Rattle.ppclink.specs.Outcomes.{Outcome, printed, written, outcome_in, first_missing}
 use Rattle.ppclink.specs.Causes.{Outside, Unread, Comes, SameFiles}
 
@@ -46,22 +46,29 @@ abbrev pub IsRefused : Outside → Outside → Option Request → List ℕ → T
 IsRefused old new None line = ⊥
 IsRefused old new (Some request) line = Comes old.told request (printed 1 line) × (new.faults ≡ old.faults)
 
--- the executable of the request was written, and nothing failed
-abbrev pub IsDone : Outside → Outside → Option Request → Type 0
-IsDone old new None = ⊥
-IsDone old new (Some request) =
+-- the request was done: its executable was written and nothing printed, or its text was printed and nothing written
+abbrev pub IsDone : Outside → Outside → Option (List ℕ) → Option (List ℕ) → Option Request → Type 0
+IsDone old new c c' None = ⊥
+IsDone old new c c' (Some request) =
     (new.faults ≡ old.faults) × (new.write_faults ≡ old.write_faults)
-    × ((image : List ℕ) × Comes old.told request (written (out_of request) image) × Replaced old.told new.told (out_of request) image (Ok tt))
+    × (((image : List ℕ) × Comes old.told request (written (out_of request) image) × Replaced old.told new.told (out_of request) image (Ok tt) × ShowsNothing c c')
+    ⊎ ((text : List ℕ) × Comes old.told request (printed 0 text) × (new.told ≡ old.told) × Shows c c' text))
 
 -- a write of the request failed
 abbrev pub IsUnwritten : Outside → Outside → Option Request → Type 0
 IsUnwritten old new None = ⊥
-IsUnwritten old new (Some request) = HasRisen old.write_faults new.write_faults
+IsUnwritten old new (Some request) = IsLink request × HasRisen old.write_faults new.write_faults
 
 -- every file but the one to be written is as it was
 abbrev pub SparesOthers : Outside → Outside → Option Request → Type 0
 SparesOthers old new None = SameFiles old.told new.told
 SparesOthers old new (Some request) = Replaced old.told new.told (out_of request) [] (Err Failed)
+
+-- a request that is no link writes nothing
+abbrev pub KeepsFiles : Outside → Outside → Option Request → Type 0
+KeepsFiles old new None = new ≡ old
+KeepsFiles old new (Some (link_to out files)) = Unit {0}
+KeepsFiles old new (Some (show_file files)) = (new.write_faults ≡ old.write_faults) × SameFiles old.told new.told
 
 -- the status of an outcome
 abbrev pub status_of : Outcome → ℕ

@@ -9,7 +9,7 @@ use ppc_outside::{OutsideError, Store};
 use std::alloc::Global;
 
 /// How many bytes an object file may have.
-const FILE_LIMIT: usize = 0x1000_0000;
+pub const FILE_LIMIT: usize = 0x1000_0000;
 
 /// Why files weren't fetched.
 #[derive(Clone, Copy, Debug)]

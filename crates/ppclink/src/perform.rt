@@ -1,16 +1,19 @@
 // What the command does over the files, before it prints.
-ghost use Rattle.std.specs.Prelude.{◌≡◌, length, Some, Result, Ok, Err, MatchResult, IfOk};
-ghost use Rattle.ppclink.specs.Requests.{request_of, texts, link_to};
-ghost use Rattle.ppclink.specs.Outcomes.{written};
-ghost use Rattle.ppclink.specs.Causes.{outside, Causes, AnswersReplace};
+ghost use Rattle.std.specs.Prelude.{◌≡◌, length, Some, Result, Ok, Err, None, MatchResult, IfOk, IfErr, OnOk};
+ghost use Rattle.ppclink.specs.Outcomes.{view_refusal};
+ghost use Rattle.ppclink.specs.Requests.{request_of, texts, link_to, show_file};
+ghost use Rattle.ppclink.specs.Causes.{outside, Causes, AnswersReplace, AnswersShow};
 ghost use Rattle.ppclink.specs.Fetching.{HaveRead};
 ghost use Rattle.object_set.specs.Files.{contents_of};
 ghost use Rattle.link_engine.specs.Link.{InRange};
 
-use crate::fetching::{Unfetched, fetch_files};
+use crate::fetching::{FILE_LIMIT, Unfetched, fetch_files};
 use crate::lines::{refusal_line, unread_line, usage_line};
+use crate::show::shown;
 use crate::words::{Command, parse};
-use link_engine::{FileBytes, Options, Steps, link};
+use elf64_records::ObjectView;
+use link_engine::{FileBytes, Options, Refusal, Steps, link, only};
+use object_set::refusal_of;
 use ppc_bytes::Memory;
 use ppc_outside::{OutsideError, Store};
 use std::alloc::Global;
@@ -109,6 +112,44 @@ fn perform_link<S: Store, L: Ledger>(
     }
 }
 
+// The view of a file's bytes, or why it can't be shown.
+#[tactic(auto, unfolding(object_set::specs::Refusals::fault_refusal))]
+fn view_of(b: &[u8]) -> Result<ObjectView<'_>, Refusal>
+    ensures refused { IfErr result (λ r. view_refusal b.now ≡ Some r) }
+    ensures found { OnOk result (view_refusal b.now ≡ None) }
+    ensures view { IfOk result (λ v. v ≡ b.now) }
+{
+    if b.len() > FILE_LIMIT {
+        return Err(Refusal::FileTooLong(0));
+    }
+    match ObjectView::read(b) {
+        Ok(view) => Ok(view),
+        Err(fault) => Err(refusal_of(0, fault)),
+    }
+}
+
+// The text of an object file, or the line of what is wrong with it.
+fn show_fetched(alloc: Global, names: &[String], b: &[u8]) -> Answer
+    ensures { AnswersShow (texts names.now) b.now result }
+{
+    match view_of(b) {
+        Ok(view) => printed(0, shown(alloc, &view)),
+        Err(refusal) => printed(1, refusal_line(alloc, names, &refusal)),
+    }
+}
+
+// Shows the named file.
+fn perform_show<S: Store>(alloc: Global, names: &[String], store: &mut S) -> Answer
+    requires { length names.now ≡ 1 }
+    ensures causes { Causes (outside (S.told store.old) (S.faults store.old) (S.write_faults store.old)) (outside (S.told store.new) (S.faults store.new) (S.write_faults store.new)) (Some (show_file (texts names.now))) result }
+{
+    match fetch_files(alloc, names, store) {
+        Ok(files) => show_fetched(alloc, names, only(&files)),
+        Err(Unfetched::Failed(i)) => printed(3, unread_line(alloc, names[i].as_str())),
+        Err(Unfetched::Memory) => Answer::NoMemory,
+    }
+}
+
 /// Does what the words say, all but the printing.
 pub fn perform<S: Store, L: Ledger>(
     alloc: Global,
@@ -121,6 +162,7 @@ pub fn perform<S: Store, L: Ledger>(
 {
     match parse(words) {
         Some(Command::Link { out, files }) => perform_link(alloc, out, files, store, steps),
+        Some(Command::Show { files }) => perform_show(alloc, files, store),
         None => printed(2, usage_line(alloc)),
     }
 }

@@ -5,7 +5,7 @@ ghost use Rattle.ppclink.specs.Requests.{Request, request_of, texts};
 ghost use Rattle.ppclink.specs.Lines.{usage_line, unread_line};
 ghost use Rattle.ppclink.specs.Outcomes.{Outcome};
 ghost use Rattle.ppclink.specs.Causes.{outside, SameFiles};
-ghost use Rattle.ppclink.specs.Statuses.{IsOr, Shows, ShowsNothing, ShowsPart, CannotRead, IsUnread, IsRefused, IsDone, IsUnwritten, SparesOthers, Settles, IsQuiet, status_of, Ends};
+ghost use Rattle.ppclink.specs.Statuses.{IsOr, Shows, ShowsNothing, ShowsPart, CannotRead, IsUnread, IsRefused, IsDone, IsUnwritten, KeepsFiles, SparesOthers, Settles, IsQuiet, status_of, Ends};
 
 use crate::perform::{Answer, perform};
 use link_engine::Steps;
@@ -31,7 +31,7 @@ fn ending<C: Console>(console: &mut C, answer: &Answer) -> u8
 
 /// Does what the words say, over files and a console, and gives the exit status.
 ///
-/// 0: done. 1: the link was refused. 2: the words aren't understood. 3: a file can't be read. 4: a file or the console
+/// 0: done. 1: a file or the link is refused. 2: the words aren't understood. 3: a file can't be read. 4: a file or the console
 /// can't be written. 5: memory was refused.
 pub fn command<S: Store, C: Console, L: Ledger>(
     alloc: Global,
@@ -57,18 +57,20 @@ pub fn command<S: Store, C: Console, L: Ledger>(
     ensures unwritten_always { (C.faults console.old < C.faults console.new) ⊎ (S.write_faults store.old < S.write_faults store.new) → result ≡ 4 }
     ensures unwritten_text { result ≡ 4 → ShowsPart (C.told console.old) (C.told console.new) }
 
-    // 1 comes only where the link is refused, with the line of the refusal.
+    // 1 comes only where the request is refused, with the line of the refusal.
     ensures refused { result ≡ 1 → (line : List ℕ) × IsRefused (outside (S.told store.old) (S.faults store.old) (S.write_faults store.old)) (outside (S.told store.new) (S.faults store.new) (S.write_faults store.new)) (request_of (texts words.now.items)) line × Shows (C.told console.old) (C.told console.new) line }
 
-    // 0 comes only where the executable was written; nothing is printed then, nor where memory is refused.
-    ensures done { result ≡ 0 → IsDone (outside (S.told store.old) (S.faults store.old) (S.write_faults store.old)) (outside (S.told store.new) (S.faults store.new) (S.write_faults store.new)) (request_of (texts words.now.items)) }
-    ensures done_text { result ≡ 0 → ShowsNothing (C.told console.old) (C.told console.new) }
+    // 0 comes only where the request was done. Where memory is refused nothing is printed.
+    ensures done { result ≡ 0 → IsDone (outside (S.told store.old) (S.faults store.old) (S.write_faults store.old)) (outside (S.told store.new) (S.faults store.new) (S.write_faults store.new)) (C.told console.old) (C.told console.new) (request_of (texts words.now.items)) }
     ensures memory_text { result ≡ 5 → ShowsNothing (C.told console.old) (C.told console.new) }
 
     // Where the store tells its files and no fetch fails, the status is that of the outcome; so a link that isn't refused
     // is done where nothing fails.
     ensures settled { (outcome : Outcome) → Settles (outside (S.told store.old) (S.faults store.old) (S.write_faults store.old)) (outside (S.told store.new) (S.faults store.new) (S.write_faults store.new)) (request_of (texts words.now.items)) outcome → IsOr result (status_of outcome) }
     ensures complete { (outcome : Outcome) → Settles (outside (S.told store.old) (S.faults store.old) (S.write_faults store.old)) (outside (S.told store.new) (S.faults store.new) (S.write_faults store.new)) (request_of (texts words.now.items)) outcome → IsQuiet (S.write_faults store.old) (S.write_faults store.new) → IsQuiet (C.faults console.old) (C.faults console.new) → (result ≡ status_of outcome) ⊎ (result ≡ 5) }
+
+    // Only a link writes.
+    ensures kept { KeepsFiles (outside (S.told store.old) (S.faults store.old) (S.write_faults store.old)) (outside (S.told store.new) (S.faults store.new) (S.write_faults store.new)) (request_of (texts words.now.items)) }
 
     // The files stay but for the executable that was written; a write that failed may leave anything under its name.
     ensures unchanged { result ≢ 0 → result ≢ 4 → SameFiles (S.told store.old) (S.told store.new) }

@@ -13,6 +13,11 @@ pub enum Command<'a> {
         /// The names of the object files.
         files: &'a [String],
     },
+    /// Shows an object file.
+    Show {
+        /// The name of the file, alone.
+        files: &'a [String],
+    },
 }
 
 // Whether a word may name a file: it isn't empty and doesn't begin with `-`.
@@ -40,6 +45,9 @@ pub fn parse(words: &[String]) -> Option<Command<'_>>
                 out: out.as_str(),
                 files: &words[3..],
             })
+        }
+        [command, file] if command.as_str() == "show" && is_file_name(file.as_str()) => {
+            Some(Command::Show { files: &words[1..] })
         }
         _ => None,
     }

@@ -5,7 +5,7 @@ use Rattle.ppclink.proofs.perform.link_fetched.Goals as goal
 
 pub returns-in-Ok-link-clause-causes : goal.returns-in-Ok-link-clause-causes
 returns-in-Ok-link-clause-causes g c =
-    write_causes _ _ _ _ _ _ c.args.out.now _ _ c.write_out.result refl (comes_written _ c.args.out.now _ c.args.names.now (contents_of c.args.files.now) c.requires.one c.requires.read c.in-Ok-link.ensures.linked (c.as_slice.ensures.value ∙ c.in-Ok-link.ensures.image)) c.write_out.ensures
+    write_causes _ _ _ _ _ _ c.args.out.now _ _ c.write_out.result tt refl (comes_written _ c.args.out.now _ c.args.names.now (contents_of c.args.files.now) c.requires.one c.requires.read c.in-Ok-link.ensures.linked (c.as_slice.ensures.value ∙ c.in-Ok-link.ensures.image)) c.write_out.ensures
 
 pub returns : goal.returns
 returns g c = record {
