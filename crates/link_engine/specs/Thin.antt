@@ -1,6 +1,6 @@
 -- A thin object file, by the ELF64 layouts of the file header, section headers and symbols (System V gABI, "Object
 -- Files"): one text section, one symbol `_start` in it, their tables, and nothing else.
-use Rattle.std.specs.Prelude.{ℕ, ◌+◌, ◌*◌, ◌%◌, Bool, true, false, ◌==◌, ◌&&◌, ◌||◌, nat_le, nat_lt, nat_eq, List, [], ◌∷◌, ◌++◌, take, drop, length, slice_index, codes}
+use Rattle.std.specs.Prelude.{ℕ, ◌+◌, ◌*◌, ◌%◌, Bool, ◌==◌, ◌&&◌, ◌||◌, nat_le, nat_lt, nat_eq, List, [], ◌∷◌, ◌++◌, take, drop, length, slice_index, codes}
 use Rattle.std.specs.List.{list_any, starts_with}
 use Rattle.ppc_bytes.specs.Bytes.{number_at}
 use Rattle.link_engine.specs.declared.thin.Section.{Section}

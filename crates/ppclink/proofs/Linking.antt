@@ -1,6 +1,6 @@
 -- A link of what was fetched is a link of the files.
-use Rattle.std.proofs.Common.{◌≡◌, ℕ, zero, suc, ◌+◌, ◌<◌, ◌≤◌, ◌⊎◌, inl, inr, List, [], ◌∷◌, length, take, get_or, Option, Some, None, refl, sym, ap, ◌∙◌, subst, arith, String, take_all, cond, true, false, Bool, ◌≢◌, Vec, not}
-use Rattle.std.specs.Prelude.{string_bytes, map, slice_index_or, unwrap_or, nat_lt, Result, Ok, Err, IfOk, OnOk, MatchResult}
+use Rattle.std.proofs.Common.{◌≡◌, ℕ, zero, suc, ◌+◌, ◌<◌, ◌⊎◌, inl, inr, List, [], ◌∷◌, length, take, get_or, Option, Some, None, refl, sym, ap, ◌∙◌, subst, arith, String, take_all, ◌≢◌, Vec}
+use Rattle.std.specs.Prelude.{string_bytes, slice_index_or, unwrap_or, Result, Ok, Err, IfOk, OnOk, MatchResult}
 use Rattle.std.specs.declared.alloc.Global.{Global}
 use Rattle.std.proofs.lemmas.Bool.{cases_lt, lt-ltb}
 use Rattle.std.proofs.lemmas.List.{length-take-le}
@@ -13,9 +13,9 @@ use Rattle.ppclink.specs.declared.perform.Answer.{Answer}
 use Rattle.ppclink.specs.declared.perform.Answer.TheVariants.{Printed, Written, Unwritten, NoMemory}
 use Rattle.link_engine.specs.Link.{file_refusal, first_refusal, image_of}
 use Rattle.ppc_outside.specs.Outside.{Files, Replaced}
-use Rattle.ppclink.specs.Requests.{Request, texts, link_to, show_file, names_of, out_of, IsLink}
+use Rattle.ppclink.specs.Requests.{Request, texts, link_to, names_of, out_of, IsLink}
 use Rattle.ppclink.specs.Lines.{refusal_line, unread_line}
-use Rattle.ppclink.specs.Outcomes.{Outcome, link_outcome, outcome_in, settled, or_missing, printed, written, outcome_of}
+use Rattle.ppclink.specs.Outcomes.{Outcome, link_outcome, outcome_in, settled, or_missing, printed, written}
 use Rattle.ppclink.specs.Fetching.{HasRead, HaveRead, ManyCause, file_limit}
 use Rattle.ppclink.specs.declared.fetching.Unfetched.{Unfetched}
 use Rattle.ppclink.specs.declared.fetching.Unfetched.TheVariants as unfetched

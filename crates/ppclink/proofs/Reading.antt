@@ -1,6 +1,6 @@
 -- Files that are fetched one after the other.
 use Rattle.std.proofs.Common.{◌≡◌, ℕ, zero, suc, ◌+◌, ◌<◌, ◌≤◌, ◌⊎◌, inl, inr, List, [], ◌∷◌, ◌++◌, length, take, get_or, Option, Some, None, refl, sym, ap, ◌∙◌, subst, arith, String, add-one}
-use Rattle.std.specs.Prelude.{string_bytes, map, slice_index_or}
+use Rattle.std.specs.Prelude.{string_bytes, slice_index_or}
 use Rattle.std.specs.declared.alloc.Global.{Global}
 use Rattle.object_set.specs.declared.files.FileBytes.{FileBytes}
 use Rattle.object_set.specs.Files.{contents_of}

@@ -1,5 +1,5 @@
 -- The text of an object file from its parts.
-use Rattle.std.proofs.Common.{◌≡◌, ℕ, ◌+◌, ◌-◌, ◌∙◌, ap, sym, List, [], ◌∷◌, ◌++◌}
+use Rattle.std.proofs.Common.{◌≡◌, ℕ, ◌+◌, ◌-◌, ◌∙◌, ap, List, [], ◌++◌}
 use Rattle.std.specs.Prelude.{ℤ, decimal, codes}
 use Rattle.std.specs.Int.{cast_unsigned, w64}
 use Rattle.elf64_records.specs.FileHeader.{e_shnum}

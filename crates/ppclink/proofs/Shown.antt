@@ -1,12 +1,10 @@
 -- A file that was fetched is shown as the file is.
-use Rattle.std.proofs.Common.{◌≡◌, ℕ, ◌+◌, ◌<◌, ◌≤◌, ◌⊎◌, inl, inr, List, [], ◌∷◌, length, take, Option, Some, None, refl, sym, ap, ◌∙◌, subst, arith, String, take_all, Vec}
-use Rattle.std.specs.Prelude.{string_bytes, unwrap_or, nat_lt, Result, Ok, Err, IfOk, MatchResult}
+use Rattle.std.proofs.Common.{◌≡◌, ℕ, ◌+◌, ◌<◌, ◌≤◌, inl, inr, List, [], ◌∷◌, length, take, Option, Some, None, sym, ap, ◌∙◌, subst, arith, String, take_all, Vec}
+use Rattle.std.specs.Prelude.{string_bytes, unwrap_or, Result, Ok, Err, IfOk, MatchResult}
 use Rattle.std.specs.declared.alloc.Global.{Global}
 use Rattle.std.proofs.lemmas.Bool.{cases_lt, lt-ltb}
 use Rattle.std.proofs.lemmas.List.{length-take-le}
 use Rattle.object_set.specs.declared.refusal.Refusal.TheVariants.{FileTooLong}
-use Rattle.elf64_records.specs.First.{◌orelse◌}
-use Rattle.object_set.specs.Refusals.{fault_refusal}
 use Rattle.ppc_outside.specs.Outside.{Files}
 use Rattle.ppclink.specs.declared.perform.Answer.{Answer}
 use Rattle.ppclink.specs.declared.perform.Answer.TheVariants.{Printed, Written, Unwritten, NoMemory}

@@ -1,5 +1,5 @@
 -- What was fetched, and why a fetch failed.
-use Rattle.std.specs.Prelude.{ℕ, ◌≡◌, ◌<◌, ◌≤◌, ◌⊎◌, ◌+◌, List, [], ◌∷◌, take, length, Option, Some, None, IsSome, slice_index_or}
+use Rattle.std.specs.Prelude.{ℕ, ◌≡◌, ◌<◌, ◌≤◌, ◌⊎◌, ◌+◌, List, [], ◌∷◌, take, length, Option, Some, None, slice_index_or}
 use Rattle.ppc_outside.specs.Outside.{Files, Holds, Lacks, last_count}
 use Rattle.ppc_outside.specs.declared.outside.OutsideError.{OutsideError}
 use Rattle.ppc_outside.specs.declared.outside.OutsideError.TheVariants as outside

@@ -1,5 +1,5 @@
 -- The lines that are printed, as their bytes.
-use Rattle.std.specs.Prelude.{ℕ, false, List, [], ◌∷◌, ◌++◌, codes, decimal, slice_index_or}
+use Rattle.std.specs.Prelude.{ℕ, false, List, [], ◌++◌, codes, decimal, slice_index_or}
 use Rattle.std.specs.Fmt.{digits, signed_decimal}
 use Rattle.elf64_records.specs.declared.fault.Place.{Place}
 use Rattle.elf64_records.specs.declared.fault.Place.TheVariants.{File, Section, Symbol, Record}

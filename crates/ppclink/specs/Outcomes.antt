@@ -1,5 +1,5 @@
 -- What a request comes to, given what the files hold.
-use Rattle.std.specs.Prelude.{ℕ, ◌≡◌, List, [], ◌∷◌, ◌++◌, map, Option, Some, None, unwrap_or}
+use Rattle.std.specs.Prelude.{ℕ, List, [], ◌∷◌, map, Option, Some, None, unwrap_or}
 use Rattle.ppc_outside.specs.Outside.{Files}
 use Rattle.link_engine.specs.Link.{first_refusal, image_of}
 use Rattle.object_set.specs.declared.refusal.Refusal.{Refusal}

@@ -1,5 +1,5 @@
 -- What the words of a command ask for.
-use Rattle.std.specs.Prelude.{ℕ, ◌≡◌, Bool, true, false, ◌==◌, ◌&&◌, not, List, [], ◌∷◌, map, length, codes, Option, Some, None, if◌then◌else◌, String, string_bytes}
+use Rattle.std.specs.Prelude.{ℕ, ◌≡◌, Bool, false, ◌==◌, ◌&&◌, not, List, [], ◌∷◌, map, length, codes, Option, Some, None, if◌then◌else◌, String, string_bytes}
 use Rattle.std.specs.Str.{bytes_eq}
 use Rattle.std.specs.declared.alloc.Global.{Global}
 use Rattle.ppclink.specs.declared.words.Command.{Command}

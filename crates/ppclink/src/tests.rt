@@ -240,3 +240,51 @@ fn failing_files_and_a_failing_console_have_their_status(rt: HostRuntime) -> Res
     assert_eq!(rt; unprinted.text.len(), 0);
     Ok(())
 }
+
+const SHOW: [&str; 2] = ["show", "t.o"];
+
+/// What is shown of the smallest object.
+const SHOWN: &str =
+    "section 1 00000001 0000000000000006 0000000000000004 000000000000000c .text\nsection 2 00000002 0000000000000000 0000000000000008 0000000000000030 .symtab\nsection 3 00000003 0000000000000000 0000000000000001 0000000000000008 .strtab\nsection 4 00000003 0000000000000000 0000000000000001 0000000000000021 .shstrtab\nsymbol 1 12 00 0001 0000000000000000 000000000000000c _start\n";
+
+#[test]
+fn the_smallest_object_is_shown(rt: HostRuntime) -> Result<(), Fail> {
+    let object = smallest(rt.alloc())?;
+    let shown = outcome(rt.alloc(), Some(&object), &SHOW, SOUND)?;
+    assert_eq!(rt; shown.status, 0);
+    assert!(rt; shown.text.as_slice() == SHOWN.as_bytes());
+    Ok(())
+}
+
+#[test]
+fn foreign_objects_are_refused_with_their_place(rt: HostRuntime) -> Result<(), Fail> {
+    let rows: [(usize, u8, &str); 4] = [
+        (16, 3, "ppclink: t.o: shared object\n"),
+        (48, 1, "ppclink: t.o: not ELFv2\n"),
+        (304 + 25, 2, "ppclink: t.o section 2: bad table\n"),
+        (104, 8, "ppclink: t.o symbol 1: bad table\n"),
+    ];
+    for (at, byte, line) in rows {
+        let object = changed(rt.alloc(), at, byte)?;
+        let shown = outcome(rt.alloc(), Some(&object), &SHOW, SOUND)?;
+        assert_eq!(rt; shown.status, 1);
+        assert!(rt; shown.text.as_slice() == line.as_bytes());
+    }
+    Ok(())
+}
+
+#[test]
+fn truncated_objects_are_refused(rt: HostRuntime) -> Result<(), Fail> {
+    let object = smallest(rt.alloc())?;
+    let rows: [(usize, &str); 3] = [
+        (3, "ppclink: t.o: not an ELF file\n"),
+        (63, "ppclink: t.o: bad table\n"),
+        (495, "ppclink: t.o: bad table\n"),
+    ];
+    for (length, line) in rows {
+        let shown = outcome(rt.alloc(), object.get(..length), &SHOW, SOUND)?;
+        assert_eq!(rt; shown.status, 1);
+        assert!(rt; shown.text.as_slice() == line.as_bytes());
+    }
+    Ok(())
+}

@@ -1,8 +1,5 @@
 use Rattle.std.proofs.Common.{ap, sym, ◌∙◌}
-use Rattle.std.specs.Prelude.{string_bytes}
 use Rattle.object_set.specs.Files.{contents_of}
-use Rattle.ppclink.specs.Requests.{texts, show_file}
-use Rattle.ppclink.proofs.Linking.{unread_causes}
 use Rattle.ppclink.proofs.Shown.{show_causes}
 use Rattle.ppclink.proofs.perform.perform_show.Goals as goal
 

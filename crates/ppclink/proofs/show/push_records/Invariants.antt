@@ -1,4 +1,4 @@
-use Rattle.std.proofs.Common.{◌≡◌, ◌++◌, ◌+◌}
+use Rattle.std.proofs.Common.{◌≡◌, ◌++◌}
 use Rattle.ppclink.specs.Show.{lines, record_line}
 use Rattle.ppclink.proofs.show.push_records.Given as goal
 
