@@ -1,5 +1,9 @@
-// What an executable holds.
+// What an executable holds, and what can be wrong with one.
+ghost use Rattle.std.specs.Prelude.{◌≡◌};
+ghost use Rattle.elf64_exec.specs.declared.layout.ExecFault.{ExecFault};
+
 use ppc_bytes::Bytes;
+use std::alloc::{AllocError, AllocFailed};
 
 /// A range of memory, and the bytes that it begins with. The rest of it is zero.
 #[derive(Debug, Drop)]
@@ -25,4 +29,37 @@ pub struct Segments {
 
     /// The segments.
     pub list: Vec<Segment>,
+}
+
+/// Why bytes aren't an executable that can be loaded. The first that holds counts.
+#[derive(Clone, Copy, Debug, PartialEq, Eq)]
+pub enum ExecFault {
+    /// They don't begin as an ELF file does.
+    NotElf,
+
+    /// The file header isn't that of an executable for this machine, or the program headers aren't in the
+    /// file.
+    NotExec,
+
+    /// The program header with this number can't be loaded.
+    BadSegment(u32),
+
+    /// Memory was refused.
+    Memory,
+}
+
+impl From<AllocError> for ExecFault {
+    ghost from_gives = { λ error fault. fault ≡ ExecFault.Memory };
+
+    fn from(_: AllocError) -> Self {
+        ExecFault::Memory
+    }
+}
+
+impl<T: Drop> From<AllocFailed<T>> for ExecFault {
+    ghost from_gives = { λ error fault. fault ≡ ExecFault.Memory };
+
+    fn from(_: AllocFailed<T>) -> Self {
+        ExecFault::Memory
+    }
 }

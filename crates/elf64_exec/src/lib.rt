@@ -3,8 +3,15 @@
 // Header"). There are no section headers.
 #![tactic(auto)]
 
+mod laws;
 mod layout;
+mod reading;
 mod writing;
 
-pub use layout::{Segment, Segments};
+pub use laws::{faults_are_one, loaded_has_no_fault, written_loads};
+pub use layout::{ExecFault, Segment, Segments};
+pub use reading::read_exec;
 pub use writing::write_exec;
+
+#[cfg(test)]
+mod tests;

@@ -1,12 +1,31 @@
 // The file header and the section headers.
 ghost use Rattle.std.specs.Prelude.{◌≡◌, ◌<◌, ◌≤◌, ◌+◌, ◌*◌, IfOk, None, length};
-ghost use Rattle.elf64_records.specs.First.{when, Refuses};
+ghost use Rattle.elf64_records.specs.First.{Refuses};
 ghost use Rattle.elf64_records.specs.FileHeader.{e_shoff, e_shnum, e_shstrndx};
 ghost use Rattle.elf64_records.specs.Sections.{sh_name, sh_type, sh_flags, sh_offset, sh_size, sh_link, sh_info, sh_addralign, sh_entsize, type_of, has_bytes, is_kept};
 ghost use Rattle.elf64_records.specs.Faults.{header_fault, kind_fault, has_entries};
 
 use crate::fault::{ElfFault, Place};
 use ppc_bytes::{half_at, has_magic, is_ppc64_le, long_at, word_at};
+
+/// File types (e_type).
+const ET_REL: u16 = 1;
+
+const ET_DYN: u16 = 3;
+
+/// Section types (sh_type).
+const SHT_NULL: u32 = 0;
+
+pub const SHT_SYMTAB: u32 = 2;
+
+pub const SHT_STRTAB: u32 = 3;
+
+pub const SHT_RELA: u32 = 4;
+
+const SHT_NOBITS: u32 = 8;
+
+/// The flag of a section that stands in memory (sh_flags).
+const SHF_ALLOC: u64 = 2;
 
 /// The section headers of a file whose file header has no fault.
 #[derive(Clone, Copy)]
@@ -40,7 +59,7 @@ impl<'a> Headers<'a> {
         let names = half_at(bytes, 62);
         if names >= count
             || names == 0
-            || word_at(bytes, start as usize + 64 * names as usize + 4) != 3
+            || word_at(bytes, start as usize + 64 * names as usize + 4) != SHT_STRTAB
         {
             return Err(ElfFault::BadTable(Place::File));
         }
@@ -82,7 +101,11 @@ impl<'a> Headers<'a> {
         requires { i < self.now.count }
         ensures { result ≡ type_of self.now.bytes.now i }
     {
-        if i == 0 { 0 } else { self.stated_kind(i) }
+        if i == 0 {
+            SHT_NULL
+        } else {
+            self.stated_kind(i)
+        }
     }
 
     /// Whether a section's bytes stand in the file.
@@ -90,7 +113,7 @@ impl<'a> Headers<'a> {
         requires { i < self.now.count }
         ensures { result ≡ has_bytes self.now.bytes.now i }
     {
-        !matches!(self.kind(i), 0 | 8)
+        !matches!(self.kind(i), SHT_NULL | SHT_NOBITS)
     }
 
     /// The flags of a section.
@@ -107,7 +130,7 @@ impl<'a> Headers<'a> {
         requires { i < self.now.count }
         ensures { result ≡ is_kept self.now.bytes.now i }
     {
-        i != 0 && self.flags(i) & 2 != 0
+        i != 0 && self.flags(i) & SHF_ALLOC != 0
     }
 
     /// Where a section's bytes begin.
@@ -187,8 +210,8 @@ fn check_kind(bytes: &[u8]) -> Result<(), ElfFault>
         return Err(ElfFault::NotPpc64Le);
     }
     match half_at(bytes, 16) {
-        1 => {}
-        3 => return Err(ElfFault::SharedObject),
+        ET_REL => {}
+        ET_DYN => return Err(ElfFault::SharedObject),
         _ => return Err(ElfFault::NotObject),
     }
     match word_at(bytes, 48) {

@@ -16,3 +16,6 @@ pub use records::Rela;
 pub use sections::SectionView;
 pub use symbols::SymbolView;
 pub use view::ObjectView;
+
+#[cfg(test)]
+mod tests;

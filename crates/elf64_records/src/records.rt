@@ -1,19 +1,19 @@
 // Relocation records with addends.
-ghost use Rattle.std.specs.Prelude.{◌≡◌, ◌<◌, ◌≤◌, ◌+◌, ◌*◌, ◌/◌, ◌%◌, ◌^◌, true, length};
+ghost use Rattle.std.specs.Prelude.{◌≡◌, ◌<◌, ◌≤◌, ◌+◌, ◌*◌, ◌/◌, ◌%◌, ◌^◌, IsTrue, length};
 ghost use Rattle.std.specs.Int.{cast_signed, w64};
 ghost use Rattle.ppc_bytes.specs.Bytes.{number_at};
 ghost use Rattle.elf64_records.specs.First.{Refuses, first_from};
-ghost use Rattle.elf64_records.specs.Sections.{is_rela, is_kept, sh_offset, sh_size, sh_info};
-ghost use Rattle.elf64_records.specs.Symbols.{symbol_count};
-ghost use Rattle.elf64_records.specs.Records.{record_place, rela_of, r_symbol};
+ghost use Rattle.elf64_records.specs.Sections.{is_rela, sh_offset};
+ghost use Rattle.elf64_records.specs.Records.{record_place};
 ghost use Rattle.elf64_records.specs.Faults.{first_section, rela_fault, records_fault, record_fault};
 
 use crate::fault::{ElfFault, Place};
+use crate::headers::SHT_RELA;
 use crate::symbols::Symbols;
-use ppc_bytes::{long_at, word_at};
+use ppc_bytes::long_at;
 
 /// One relocation record.
-#[derive(Clone, Copy, Debug)]
+#[derive(Clone, Copy, Debug, PartialEq, Eq)]
 pub struct Rela {
     /// The offset of the field in its section (r_offset).
     pub offset: u64,
@@ -70,7 +70,7 @@ fn check_each(symbols: &Symbols, i: u32, start: usize, count: u32) -> Result<(),
 #[tactic(auto, unfolding(crate::specs::Faults::records_fault))]
 fn check_records(symbols: &Symbols, i: u32) -> Result<(), ElfFault>
     requires number { i < symbols.now.sections.headers.count }
-    requires kind { is_rela symbols.now.sections.headers.bytes.now i ≡ true }
+    requires kind { IsTrue (is_rela symbols.now.sections.headers.bytes.now i) }
     ensures { Refuses result (records_fault symbols.now.sections.headers.bytes.now i) }
 {
     let headers = symbols.sections.headers;
@@ -87,7 +87,7 @@ fn check_rela(symbols: &Symbols, i: u32) -> Result<(), ElfFault>
     ensures { Refuses result (rela_fault symbols.now.sections.headers.bytes.now i) }
 {
     let headers = symbols.sections.headers;
-    if headers.kind(i) != 4 {
+    if headers.kind(i) != SHT_RELA {
         return Ok(());
     }
     let target = headers.info(i);

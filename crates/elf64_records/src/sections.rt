@@ -1,5 +1,5 @@
 // Sections: their bytes and their names.
-ghost use Rattle.std.specs.Prelude.{◌≡◌, ◌<◌, ◌≤◌, ◌+◌, ◌*◌, ◌/◌, IfOk, true, None, length, if◌then◌else◌};
+ghost use Rattle.std.specs.Prelude.{◌≡◌, ◌<◌, ◌≤◌, ◌+◌, ◌*◌, ◌/◌, IfOk, IsTrue, None, length};
 ghost use Rattle.elf64_records.specs.First.{Refuses};
 ghost use Rattle.elf64_records.specs.Sections.{sh_offset, sh_size, has_bytes, section_bytes, section_names, section_of};
 ghost use Rattle.elf64_records.specs.Faults.{range_fault, name_fault, sections_fault, first_section};
@@ -54,7 +54,8 @@ impl<'a> Sections<'a> {
     /// The bytes of a section.
     pub fn bytes(&self, i: u32) -> &'a [u8]
         requires { i < self.now.headers.count }
-        ensures { result.now ≡ section_bytes self.now.headers.bytes.now i }
+        ensures value { result.now ≡ section_bytes self.now.headers.bytes.now i }
+        ensures length { IsTrue (has_bytes self.now.headers.bytes.now i) → length result.now ≡ sh_size self.now.headers.bytes.now i }
     {
         bytes_of(&self.headers, i)
     }
@@ -70,6 +71,7 @@ impl<'a> Sections<'a> {
         ensures info { result.info ≡ (section_of self.now.headers.bytes.now i).info }
         ensures align { result.align ≡ (section_of self.now.headers.bytes.now i).align }
         ensures bytes { result.bytes.now ≡ (section_of self.now.headers.bytes.now i).bytes }
+        ensures length { IsTrue (has_bytes self.now.headers.bytes.now i) → length result.bytes.now ≡ result.size }
     {
         SectionView {
             name: self.name(i),
@@ -99,7 +101,7 @@ impl<'a> Sections<'a> {
     /// Where the entries of a table begin, and how many of 24 bytes there are.
     pub fn entries(&self, i: u32) -> (usize, u32)
         requires number { i < self.now.headers.count }
-        requires stored { has_bytes self.now.headers.bytes.now i ≡ true }
+        requires stored { IsTrue (has_bytes self.now.headers.bytes.now i) }
         ensures start { result.0 ≡ sh_offset self.now.headers.bytes.now i }
         ensures count { result.1 ≡ sh_size self.now.headers.bytes.now i / 24 }
         ensures within { result.0 + 24 * result.1 ≤ length self.now.headers.bytes.now }
@@ -114,7 +116,7 @@ impl<'a> Sections<'a> {
 fn range_of(headers: &Headers, i: u32) -> (usize, usize)
     requires number { i < headers.now.count }
     requires ranges { first_section headers.now.bytes.now (range_fault headers.now.bytes.now) ≡ None }
-    requires stored { has_bytes headers.now.bytes.now i ≡ true }
+    requires stored { IsTrue (has_bytes headers.now.bytes.now i) }
     ensures start { result.0 ≡ sh_offset headers.now.bytes.now i }
     ensures size { result.1 ≡ sh_size headers.now.bytes.now i }
     ensures within { result.0 + result.1 ≤ length headers.now.bytes.now }
@@ -126,7 +128,8 @@ fn range_of(headers: &Headers, i: u32) -> (usize, usize)
 fn bytes_of<'a>(headers: &Headers<'a>, i: u32) -> &'a [u8]
     requires number { i < headers.now.count }
     requires ranges { first_section headers.now.bytes.now (range_fault headers.now.bytes.now) ≡ None }
-    ensures { result.now ≡ section_bytes headers.now.bytes.now i }
+    ensures value { result.now ≡ section_bytes headers.now.bytes.now i }
+    ensures length { IsTrue (has_bytes headers.now.bytes.now i) → length result.now ≡ sh_size headers.now.bytes.now i }
 {
     if headers.has_bytes(i) {
         let (start, size) = range_of(headers, i);

@@ -1,13 +1,13 @@
 // The symbol table.
-ghost use Rattle.std.specs.Prelude.{◌≡◌, ◌≢◌, ◌<◌, ◌≤◌, ◌+◌, ◌*◌, IfOk, IfSome, None, true, length};
-ghost use Rattle.elf64_records.specs.First.{Refuses, first_from, ◌orelse◌};
+ghost use Rattle.std.specs.Prelude.{◌≡◌, ◌≢◌, ◌<◌, ◌≤◌, ◌+◌, ◌*◌, IfOk, IfSome, IsTrue, None, length};
+ghost use Rattle.elf64_records.specs.First.{Refuses, first_from};
 ghost use Rattle.elf64_records.specs.Sections.{is_symbol_table, sh_offset, sh_link};
-ghost use Rattle.elf64_records.specs.Names.{IsZeroEnd, name_at};
+ghost use Rattle.elf64_records.specs.Names.{IsZeroEnd};
 ghost use Rattle.elf64_records.specs.Symbols.{symbol_table_at, symbol_table, symbol_count, symbol_place, symbol_names, symbol_of, st_name};
 ghost use Rattle.elf64_records.specs.Faults.{first_section, second_fault, symbol_table_fault, symbol_fault, symbols_fault};
 
 use crate::fault::{ElfFault, Place};
-use crate::headers::Headers;
+use crate::headers::{Headers, SHT_STRTAB, SHT_SYMTAB};
 use crate::names::{name_from, zero_end};
 use crate::sections::Sections;
 use ppc_bytes::{half_at, long_at, word_at};
@@ -123,9 +123,13 @@ impl<'a> Symbols<'a> {
 fn symbol_table_at(headers: &Headers, i: u32) -> Option<u32>
     requires { i < headers.now.count }
     ensures number { result ≡ symbol_table_at headers.now.bytes.now i }
-    ensures kind { IfSome result (λ n. (n < headers.now.count) × (is_symbol_table headers.now.bytes.now n ≡ true)) }
+    ensures kind { IfSome result (λ n. (n < headers.now.count) × IsTrue (is_symbol_table headers.now.bytes.now n)) }
 {
-    if headers.kind(i) == 2 { Some(i) } else { None }
+    if headers.kind(i) == SHT_SYMTAB {
+        Some(i)
+    } else {
+        None
+    }
 }
 
 /// The number of the first symbol table, or 0 where there is none.
@@ -133,7 +137,7 @@ fn symbol_table_at(headers: &Headers, i: u32) -> Option<u32>
 fn symbol_table(headers: &Headers) -> u32
     ensures number { result ≡ symbol_table headers.now.bytes.now }
     ensures within { result < headers.now.count }
-    ensures kind { result ≢ 0 → is_symbol_table headers.now.bytes.now result ≡ true }
+    ensures kind { result ≢ 0 → IsTrue (is_symbol_table headers.now.bytes.now result) }
 {
     for i in 1..headers.count {
         if let Some(table) = symbol_table_at(headers, i) {
@@ -144,12 +148,12 @@ fn symbol_table(headers: &Headers) -> u32
 }
 
 #[tactic(auto, unfolding(crate::specs::Faults::second_fault))]
-fn check_other(headers: &Headers, table: u32, i: u32) -> Result<(), ElfFault>
+fn check_no_other(headers: &Headers, table: u32, i: u32) -> Result<(), ElfFault>
     requires table { table ≡ symbol_table headers.now.bytes.now }
     requires number { i < headers.now.count }
     ensures { Refuses result (second_fault headers.now.bytes.now i) }
 {
-    if headers.kind(i) == 2 && i != table {
+    if headers.kind(i) == SHT_SYMTAB && i != table {
         return Err(ElfFault::BadTable(Place::Section(i)));
     }
     Ok(())
@@ -161,7 +165,7 @@ fn check_second(headers: &Headers, table: u32) -> Result<(), ElfFault>
     ensures { Refuses result (first_section headers.now.bytes.now (second_fault headers.now.bytes.now)) }
 {
     for i in 1..headers.count {
-        check_other(headers, table, i)?;
+        check_no_other(headers, table, i)?;
     }
     Ok(())
 }
@@ -176,7 +180,7 @@ fn check_table(headers: &Headers, table: u32) -> Result<(), ElfFault>
         return Ok(());
     }
     let link = headers.link(table);
-    if !headers.has_entries(table) || link >= headers.count || headers.kind(link) != 3 {
+    if !headers.has_entries(table) || link >= headers.count || headers.kind(link) != SHT_STRTAB {
         return Err(ElfFault::BadTable(Place::Section(table)));
     }
     Ok(())

@@ -1,5 +1,5 @@
 // A relocatable file as a whole.
-ghost use Rattle.std.specs.Prelude.{◌≡◌, ◌<◌, ◌≤◌, IfOk, None, length};
+ghost use Rattle.std.specs.Prelude.{◌≡◌, ◌<◌, ◌≤◌, IfOk, IsTrue, None, length};
 ghost use Rattle.elf64_records.specs.First.{Refuses};
 ghost use Rattle.elf64_records.specs.FileHeader.{e_shnum};
 ghost use Rattle.elf64_records.specs.Sections.{has_bytes, section_of};
@@ -8,7 +8,7 @@ ghost use Rattle.elf64_records.specs.Records.{record_count, rela_of};
 ghost use Rattle.elf64_records.specs.Faults.{object_fault};
 
 use crate::fault::ElfFault;
-use crate::headers::Headers;
+use crate::headers::{Headers, SHT_RELA};
 use crate::records::{Rela, check_relas, record_at};
 use crate::sections::{SectionView, Sections};
 use crate::symbols::{SymbolView, Symbols};
@@ -65,6 +65,7 @@ impl<'a> ObjectView<'a> {
         ensures info { result.info ≡ (section_of self.now i).info }
         ensures align { result.align ≡ (section_of self.now i).align }
         ensures bytes { result.bytes.now ≡ (section_of self.now i).bytes }
+        ensures length { IsTrue (has_bytes self.now i) → length result.bytes.now ≡ result.size }
     {
         self.symbols.sections.section(i)
     }
@@ -97,7 +98,7 @@ impl<'a> ObjectView<'a> {
         ensures { result ≡ record_count self.now i }
     {
         let headers = self.symbols.sections.headers;
-        if headers.kind(i) == 4 && headers.is_kept(headers.info(i)) {
+        if headers.kind(i) == SHT_RELA && headers.is_kept(headers.info(i)) {
             self.symbols.sections.entries(i).1
         } else {
             0

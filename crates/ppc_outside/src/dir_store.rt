@@ -8,6 +8,7 @@ use std::fs;
 use std::fs::OpenOptions;
 use std::io::{ErrorKind, Read, Write};
 use std::os::unix::fs::OpenOptionsExt;
+use std::path::AsPath;
 use std::rt::Files;
 
 /// How many bytes are asked of a file at once.
@@ -137,10 +138,24 @@ impl<R: Files + AllocGlobal + Drop> DirStore<R> {
         }
     }
 
+    // A name that stands for no regular file, such as that of a device, is written in place and never replaced; a link
+    // is followed to what it leads to.
     fn write_file(&self, name: &str, bytes: &[u8]) -> Result<(), OutsideError> {
-        match fs::metadata(&self.rt, name) {
+        match fs::symlink_metadata(&self.rt, name) {
+            Ok(found) if found.is_symlink() => self.write_linked(name, bytes),
             Ok(found) if !found.is_file() => write_in_place(&self.rt, name, bytes),
             _ => write_beside(&self.rt, name, bytes),
+        }
+    }
+
+    fn write_linked(&self, name: &str, bytes: &[u8]) -> Result<(), OutsideError> {
+        let Ok(path) = fs::canonicalize(&self.rt, name) else {
+            return write_in_place(&self.rt, name, bytes);
+        };
+        let target = path.path_text();
+        match fs::metadata(&self.rt, target) {
+            Ok(found) if found.is_file() => write_beside(&self.rt, target, bytes),
+            _ => write_in_place(&self.rt, name, bytes),
         }
     }
 }

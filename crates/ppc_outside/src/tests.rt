@@ -1,7 +1,7 @@
 // The store and the console in memory, and those of the system, each used once.
 use crate::{Console, DirStore, MemConsole, MemStore, OutsideError, StdConsole, Store};
 use std::fs;
-use std::os::unix::fs::MetadataExt;
+use std::os::unix::fs::{MetadataExt, symlink};
 use std::test::Fail;
 
 #[test]
@@ -57,6 +57,28 @@ fn real_files_are_replaced_whole_and_executable(rt: HostRuntime) -> Result<(), F
         Err(OutsideError::Failed)
     );
     assert_eq!(rt; into.as_slice(), b"newne".as_slice());
+    Ok(())
+}
+
+#[test]
+fn links_are_followed_and_folders_are_never_replaced(rt: HostRuntime) -> Result<(), Fail> {
+    let mut store = DirStore::new(rt);
+    assert_eq!(rt; store.replace("linked.out", b"old"), Ok(()));
+    symlink(&rt, "linked.out", "link.out")?;
+    assert_eq!(rt; store.replace("link.out", b"new"), Ok(()));
+    let mut into = Vec::new(rt.alloc());
+    assert_eq!(rt; store.fetch("linked.out", 9, &mut into), Ok(()));
+    assert_eq!(rt; into.as_slice(), b"new".as_slice());
+    assert!(rt; fs::symlink_metadata(&rt, "link.out")?.is_symlink());
+    fs::remove_file(&rt, "link.out")?;
+    fs::remove_file(&rt, "linked.out")?;
+    fs::create_dir(&rt, "folder.out")?;
+    assert_eq!(rt;
+        store.replace("folder.out", b"new"),
+        Err(OutsideError::Failed)
+    );
+    assert!(rt; fs::metadata(&rt, "folder.out")?.is_dir());
+    fs::remove_dir(&rt, "folder.out")?;
     Ok(())
 }
 

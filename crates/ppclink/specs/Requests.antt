@@ -1,5 +1,5 @@
 -- What the words of a command ask for.
-use Rattle.std.specs.Prelude.{ℕ, ◌≡◌, Bool, true, false, ◌==◌, ◌&&◌, not, List, [], ◌∷◌, map, codes, Option, Some, None, if◌then◌else◌, String, string_bytes}
+use Rattle.std.specs.Prelude.{ℕ, ◌≡◌, Bool, true, false, ◌==◌, ◌&&◌, not, List, [], ◌∷◌, map, length, codes, Option, Some, None, if◌then◌else◌, String, string_bytes}
 use Rattle.std.specs.Str.{bytes_eq}
 use Rattle.std.specs.declared.alloc.Global.{Global}
 use Rattle.ppclink.specs.declared.words.Command.{Command}
@@ -29,6 +29,14 @@ request_of words = None
 abbrev pub names_of : Request → List (List ℕ)
 names_of (link_to out files) = files
 
+-- the file that a request writes
+abbrev pub out_of : Request → List ℕ
+out_of (link_to out files) = out
+
 -- what a command that was read asks for
 abbrev pub meaning : Command → Request
 meaning (Link out files) = link_to out.now (texts files.now)
+
+-- a link has one file
+abbrev pub HasFiles : Command → Type 0
+HasFiles (Link out files) = length files.now ≡ 1

@@ -1,5 +1,5 @@
 // The lines that are printed.
-ghost use Rattle.std.specs.Prelude.{◌≡◌, ◌≢◌, ◌<◌, length, IfOk};
+ghost use Rattle.std.specs.Prelude.{◌≡◌, ◌≢◌, ◌<◌, length, IfOk, OnOk};
 ghost use Rattle.ppclink.specs.Requests.{texts};
 ghost use Rattle.ppclink.specs.Lines.{usage_line, unread_line, file_line, refusal_line, IsOfFile};
 
@@ -36,16 +36,17 @@ fn file_line(alloc: Global, name: &str, what: &str) -> Result<Vec<u8>, Memory>
     Ok(text)
 }
 
-/// The line of a refusal of files with these names.
+/// The line of a refusal of files with these names; the refusal that memory was refused has none.
 pub fn refusal_line(alloc: Global, names: &[String], refusal: Refusal) -> Result<Vec<u8>, Memory>
     requires { IsOfFile (length names.now) refusal }
-    ensures { IfOk result (λ text. text.items ≡ refusal_line (texts names.now) refusal) }
+    ensures line { IfOk result (λ text. text.items ≡ refusal_line (texts names.now) refusal) }
+    ensures stated { OnOk result (refusal ≢ Refusal.Memory) }
 {
     let (file, what) = match refusal {
         Refusal::FileTooLong(file) => (file, "file too long"),
         Refusal::NotElf(file) => (file, "not an ELF file"),
         Refusal::NotBuilt(file) => (file, "not built yet"),
-        Refusal::Memory => return Ok(Vec::new(alloc)),
+        Refusal::Memory => return Err(Memory),
     };
     file_line(alloc, names[file as usize].as_str(), what)
 }

@@ -1,8 +1,51 @@
-// The command of the linker: words in, a status and text out, over files and a console.
+// The linker's command: words in, a status and text out, over files and a console.
 #![tactic(auto)]
 
 mod fetching;
 mod lines;
+mod perform;
+#[cfg(test)]
+mod tests;
+mod top;
 mod words;
 
-fn main(rt: HostRuntime) {}
+ghost use Rattle.std.specs.Prelude.{◌≡◌, ◌<◌};
+
+use link_engine::Steps;
+use ppc_outside::{DirStore, StdConsole};
+use std::env;
+use std::marker::Brand;
+use std::process::ExitCode;
+use std::sync::ledger::{Blank, Ledger};
+use top::command;
+
+/// The status where memory is refused.
+const NO_MEMORY: u8 = 5;
+
+// The words of the command line, without the program's name.
+fn command_words(rt: &HostRuntime) -> Option<Vec<String>> {
+    let mut words = Vec::new(rt.alloc());
+    for word in env::args(rt).ok()?.skip(1) {
+        words.push(word).ok()?;
+    }
+    Some(words)
+}
+
+// Runs the command over the real files and standard output.
+fn run<L: Ledger>(rt: &HostRuntime, blank: Blank) -> u8
+    requires name { blank.name ≡ L.name }
+    requires parts { blank.parts ≡ L.parts }
+    requires some { 0 < L.parts }
+{
+    let Some(words) = command_words(rt) else {
+        return NO_MEMORY;
+    };
+    let mut store = DirStore::new(*rt);
+    let mut console = StdConsole::new(*rt);
+    let mut steps = Steps::<L>::new(blank);
+    command(rt.alloc(), &words, &mut store, &mut console, &mut steps)
+}
+
+fn main(rt: HostRuntime) -> ExitCode {
+    ExitCode::from(run::<Brand>(&rt, Blank::new(1)))
+}

@@ -1,7 +1,7 @@
 // The words of a command.
-ghost use Rattle.std.specs.Prelude.{◌≡◌};
+ghost use Rattle.std.specs.Prelude.{◌≡◌, IfSome};
 ghost use Rattle.std.specs.Option.{option_map};
-ghost use Rattle.ppclink.specs.Requests.{request_of, texts, meaning, is_file_name};
+ghost use Rattle.ppclink.specs.Requests.{request_of, texts, meaning, is_file_name, HasFiles};
 
 /// A command whose words were understood.
 #[derive(Clone, Copy, Debug)]
@@ -27,7 +27,8 @@ fn is_file_name(word: &str) -> bool
 
 /// Reads the words; None exactly where they aren't of the grammar.
 pub fn parse(words: &[String]) -> Option<Command<'_>>
-    ensures { option_map meaning result ≡ request_of (texts words.now) }
+    ensures value { option_map meaning result ≡ request_of (texts words.now) }
+    ensures files { IfSome result HasFiles }
 {
     match words {
         [command, option, out, file]

@@ -1,0 +1,5 @@
+use Rattle.elf64_exec.specs.Laws.{no_fault}
+use Rattle.elf64_exec.proofs.laws.loaded_has_no_fault.Goals as goal
+
+pub returns : goal.returns
+returns c file entry segments fault loads has = no_fault file entry segments fault loads has

@@ -1,0 +1,18 @@
+// What callers may rely on about the words of pairs.
+ghost use Rattle.std.specs.Prelude.{◌≡◌, ◌<◌, ◌^◌};
+ghost use Rattle.power_insns.specs.Words.{total_bits, EachHolds};
+ghost use Rattle.prefixed_insns.specs.declared.instruction.PInsn.{PInsn};
+ghost use Rattle.prefixed_insns.specs.Table.{prefix_fields, suffix_fields, prefix_of, suffix_of, Fits};
+
+/// Both words have 32 bits, and each field holds what it is given.
+pub fn pairs_are_two_words()
+    ensures prefix_bits { (i : PInsn) → total_bits (prefix_fields i) ≡ 32 }
+    ensures suffix_bits { (i : PInsn) → total_bits (suffix_fields i) ≡ 32 }
+    ensures prefix_holds { (i : PInsn) → Fits i → EachHolds (prefix_fields i) }
+    ensures suffix_holds { (i : PInsn) → Fits i → EachHolds (suffix_fields i) }
+{}
+
+/// No two instructions have the same two words.
+pub fn pairs_tell_their_instruction()
+    ensures { (i j : PInsn) → Fits i → Fits j → prefix_of i ≡ prefix_of j → suffix_of i ≡ suffix_of j → i ≡ j }
+{}
