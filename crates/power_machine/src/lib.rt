@@ -1,0 +1,20 @@
+// A machine that runs static executables for little-endian 64-bit Power (Power ISA 3.1, books I and III; ELFv2 ABI for the start): registers,
+// memory, fetches, operations and four system calls, in a world that answers reads and writes.
+#![tactic(auto)]
+
+mod calls;
+mod code;
+mod contents;
+mod loading;
+mod machine;
+mod memory;
+mod reason;
+mod state;
+mod world;
+
+pub use machine::{Machine, Outcome, StepOutcome};
+pub use reason::Reason;
+pub use world::{Answer, Event, World};
+
+#[cfg(test)]
+mod tests;
