@@ -1,8 +1,8 @@
 // Loading an executable's segments.
-ghost use Rattle.std.specs.Prelude.{◌≡◌, ◌<◌, ◌≤◌, ◌+◌, ◌-◌, ℕ, List, ◌++◌, replicate, length, map, IfOk, true, false};
+ghost use Rattle.std.specs.Prelude.{◌≡◌, ◌<◌, ◌≤◌, ◌+◌, ◌-◌, ℕ, List, [], ◌∷◌, ◌++◌, replicate, length, map, IfOk, true, false};
 ghost use Rattle.elf64_exec.specs.Executable.{ArePlaced, IsSound};
 ghost use Rattle.power_machine.specs.Memory.{InOrder};
-ghost use Rattle.power_machine.specs.Start.{IsStart, region_of, stack_region};
+ghost use Rattle.power_machine.specs.Start.{IsStart, region_of, stack_region, zeros};
 
 use crate::contents::Contents;
 use crate::machine::Machine;
@@ -32,16 +32,25 @@ fn region_of(segment: Segment) -> Result<Region, WantOfMemory>
     })
 }
 
+#[tactic(auto, unfolding(crate::specs::Start::zeros))]
+fn zeros(alloc: Global, count: usize) -> Result<Contents, WantOfMemory>
+    ensures { IfOk result (λ bytes. bytes ≡ zeros count) }
+{
+    let mut bytes = Vec::new(alloc);
+    bytes.resize(count, 0)?;
+    Ok(Contents::of(bytes))
+}
+
+// The region of the stack.
 fn stack(alloc: Global) -> Result<Region, WantOfMemory>
     ensures { IfOk result (λ r. r ≡ stack_region) }
 {
-    let mut bytes = Vec::new(alloc);
-    bytes.resize(STACK_SIZE, 0)?;
+    let bytes = zeros(alloc, STACK_SIZE)?;
     Ok(Region {
         start: STACK_START,
         writable: true,
         executable: false,
-        bytes: Contents::of(bytes),
+        bytes,
     })
 }
 
