@@ -1,5 +1,5 @@
 -- The regions of an executable's segments, and what they stand for.
-use Rattle.std.proofs.Common.{◌≡◌, ℕ, zero, suc, ◌+◌, ◌-◌, ◌<◌, ◌≤◌, ◌/◌, ◌%◌, Bool, true, false, ◌&&◌, List, [], ◌∷◌, ◌++◌, length, map, get_or, cond, refl, sym, ap, ◌∙◌, subst, arith, ⊎_elim}
+use Rattle.std.proofs.Common.{◌≡◌, ℕ, zero, suc, ◌+◌, ◌-◌, ◌<◌, ◌≤◌, ◌/◌, ◌%◌, Bool, true, false, ◌&&◌, List, [], ◌∷◌, ◌++◌, length, map, get_or, cond, refl, sym, ap, ◌∙◌, subst, arith, ⊎_elim, append_assoc}
 use Rattle.std.specs.Prelude.{nat_le, nat_lt, replicate}
 use Rattle.std.specs.List.{All, AllPairs}
 use Rattle.std.proofs.lemmas.List.{length-replicate, get_or-replicate, length-append, map-append, length-map, get_or_default}
@@ -11,31 +11,36 @@ use Rattle.elf64_exec.specs.declared.layout.Segment.{Segment}
 use Rattle.elf64_exec.specs.Executable.{end_of, IsSound, IsBefore, ArePlaced}
 use Rattle.power_machine.specs.declared.memory.Region.{Region}
 use Rattle.power_machine.specs.Memory.{Range, InOrder, stop_of, range_of, ranges_of, byte_at}
-use Rattle.power_machine.specs.Start.{segment_range, stack_range, start_ranges, start_byte, region_of, stack_region, zeros}
+use Rattle.power_machine.specs.Numbers.{NumberState}
+use Rattle.power_machine.specs.Start.{start_registers, start_state, segment_range, stack_range, start_ranges, start_byte, region_of, stack_region, zeros}
+
+-- the number 0
+abbrev nought : ℕ
+nought = 0
 
 length-zeros : (n : ℕ) → length (zeros n) ≡ n
 unfolding zeros
-length-zeros n = length-replicate n 0
+length-zeros n = length-replicate n nought
 
-zero_in : (n i : ℕ) → get_or (zeros n) i 0 ≡ 0
-unfolding zeros
-zero_in n i = zero_among n i
-
-zero_among : (n i : ℕ) → get_or (replicate n 0) i 0 ≡ 0
+zero_among : (n i : ℕ) → get_or (replicate n nought) i nought ≡ nought
 zero_among zero i = refl
 zero_among (suc n) zero = refl
 zero_among (suc n) (suc i) = zero_among n i
 
+zero_in : (n i : ℕ) → get_or (zeros n) i nought ≡ nought
+unfolding zeros
+zero_in n i = zero_among n i
+
 -- zeros behind a list change no element
-with_zeros : (xs : List ℕ) (n i : ℕ) → get_or (xs ++ replicate n 0) i 0 ≡ get_or xs i 0
+with_zeros : (xs : List ℕ) (n i : ℕ) → get_or (xs ++ replicate n nought) i nought ≡ get_or xs i nought
 with_zeros [] n i = zero_among n i
 with_zeros (x ∷ xs) n zero = refl
 with_zeros (x ∷ xs) n (suc i) = with_zeros xs n i
 
 region_stop : (s : Segment) → IsSound s → stop_of (region_of s) ≡ end_of s
 region_stop s sound =
-    let long = length-append s.bytes (replicate (s.size - length s.bytes) 0) in
-    let rest = length-replicate (s.size - length s.bytes) 0 in
+    let long = length-append s.bytes (replicate (s.size - length s.bytes) nought) in
+    let rest = length-replicate (s.size - length s.bytes) nought in
     omega (arith, long, rest, sound.held)
 
 stack_stop : stop_of stack_region ≡ 0x80000000
@@ -47,21 +52,21 @@ ranges_start (s ∷ segments) sound =
     ap (λ n. record { start = s.address; stop = n; writable = (region_of s).writable; executable = (region_of s).executable } ∷ ranges_of (map region_of segments ++ stack_region ∷ [])) (region_stop s (sound 0 s (omega arith)))
     ∙ ap (λ rs. segment_range s ∷ rs) (ranges_start segments (All-tail IsSound s segments sound))
 
-same_either : (b : Bool) → cond b 0 0 ≡ 0
+same_either : (b : Bool) → cond b nought nought ≡ nought
 same_either true = refl
 same_either false = refl
 
 pub byte_start : (segments : List Segment) → All IsSound segments → (a : ℕ) → byte_at (map region_of segments ++ stack_region ∷ []) a ≡ start_byte segments a
 byte_start [] sound a =
     let b = nat_le 0x7F800000 a && nat_lt a (stop_of stack_region) in
-    ap (λ x. cond b x 0) (zero_in 0x800000 (a - 0x7F800000)) ∙ same_either b
+    ap (λ x. cond b x nought) (zero_in 0x800000 (a - 0x7F800000)) ∙ same_either b
 byte_start (s ∷ segments) sound a =
     let rest = byte_at (map region_of segments ++ stack_region ∷ []) a in
     let from = nat_le s.address a in
-    let here = get_or (region_of s).bytes (a - s.address) 0 in
+    let here = get_or (region_of s).bytes (a - s.address) nought in
     ap (λ n. cond (from && nat_lt a n) here rest) (region_stop s (sound 0 s (omega arith)))
     ∙ ap (λ x. cond (from && nat_lt a (end_of s)) x rest) (with_zeros s.bytes (s.size - length s.bytes) (a - s.address))
-    ∙ ap (λ x. cond (from && nat_lt a (end_of s)) (get_or s.bytes (a - s.address) 0) x) (byte_start segments (All-tail IsSound s segments sound) a)
+    ∙ ap (λ x. cond (from && nat_lt a (end_of s)) (get_or s.bytes (a - s.address) nought) x) (byte_start segments (All-tail IsSound s segments sound) a)
 
 empty : Segment
 empty = record { flags = 0; address = 0; bytes = []; size = 0 }
@@ -112,3 +117,22 @@ regions_in_order xs placed =
           omega (arith, b, f))
           (cases_lt j (length xs));
     }
+
+-- one segment more
+pub regions_more : (done done' : List Region) (s : Segment) (r : Region) (rest rest' : List Segment) (all : List Region) → rest ≡ s ∷ rest' → r ≡ region_of s → done' ≡ done ++ r ∷ [] → done ++ map region_of rest ≡ all → done' ++ map region_of rest' ≡ all
+regions_more done done' s r rest rest' all e f g h =
+    ap (λ xs. xs ++ map region_of rest') (g ∙ ap (λ x. done ++ x ∷ []) f)
+    ∙ append_assoc done (region_of s ∷ []) (map region_of rest')
+    ∙ ap (λ xs. done ++ map region_of xs) (sym e)
+    ∙ h
+
+pub sound_more : (s : Segment) (rest rest' : List Segment) → rest ≡ s ∷ rest' → All IsSound rest → All IsSound rest'
+sound_more s rest rest' e h = All-tail IsSound s rest' (subst (All IsSound) e h)
+
+-- the state on those regions
+abbrev pub loaded : ℕ → (ℕ → ℕ) → NumberState
+loaded entry byte = record { at = entry; registers = start_registers entry; condition = replicate 32 false; byte = byte }
+
+pub state_start : (entry : ℕ) (segments : List Segment) (regions : List Region) → All IsSound segments → regions ≡ map region_of segments ++ stack_region ∷ [] → loaded entry (byte_at regions) ≡ start_state entry segments
+state_start entry segments regions sound e =
+    ap (λ rs. loaded entry (byte_at rs)) e ∙ ap (loaded entry) (λ j a. byte_start segments sound a j)

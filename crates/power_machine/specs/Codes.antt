@@ -33,14 +33,18 @@ IsTwoWords prefix suffix insn = FitsPair insn × (prefix_of insn ≡ prefix) × 
 abbrev pub HasSecond : List Range → ℕ → Type 0
 HasSecond ranges at = (at % 64 ≢ 60) × (is_executable ranges (sum_address at 4) ≡ true)
 
--- this stands at the address
+-- no instruction of one word stands at the address
+abbrev pub HasNoWord : (ℕ → ℕ) → ℕ → Type 0
+HasNoWord byte at = (insn : Insn) → ¬ IsOneWord (word_in byte at) insn
+
+-- This stands at the address. No instruction of one word begins as one of two words does.
 abbrev pub Stands : List Range → (ℕ → ℕ) → ℕ → Code → Type 0
 Stands ranges byte at Unfetched = is_executable ranges at ≡ false
 Stands ranges byte at (OneWord insn) = (is_executable ranges at ≡ true) × IsOneWord (word_in byte at) insn
 Stands ranges byte at (TwoWords insn) =
-    (is_executable ranges at ≡ true) × HasSecond ranges at × IsTwoWords (word_in byte at) (word_in byte (sum_address at 4)) insn
+    (is_executable ranges at ≡ true) × HasNoWord byte at × HasSecond ranges at × IsTwoWords (word_in byte at) (word_in byte (sum_address at 4)) insn
 Stands ranges byte at Unknown =
-    (is_executable ranges at ≡ true) × ((insn : Insn) → ¬ IsOneWord (word_in byte at) insn)
+    (is_executable ranges at ≡ true) × HasNoWord byte at
     × ((insn : PInsn) → HasSecond ranges at → ¬ IsTwoWords (word_in byte at) (word_in byte (sum_address at 4)) insn)
 
 -- at the state's next address

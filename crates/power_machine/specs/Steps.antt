@@ -1,5 +1,5 @@
 -- Steps of the machine in its world, and runs of at most so many steps.
-use Rattle.std.specs.Prelude.{◌≡◌, ◌<◌, ◌≤◌, ℕ, zero, suc, ◌+◌, Bool, true, false, List, drop, Option, Some, None, if◌then◌else◌}
+use Rattle.std.specs.Prelude.{◌≡◌, ◌<◌, ◌≤◌, ℕ, zero, suc, ◌+◌, Bool, true, false, List, ◌++◌, drop, Option, Some, None, if◌then◌else◌}
 use Rattle.power_insns.specs.declared.meaning.Operation.{Operation}
 use Rattle.power_insns.specs.declared.meaning.Operation.TheVariants.{System}
 use Rattle.power_insns.specs.Operations.{operation_of}
@@ -8,6 +8,7 @@ use Rattle.power_machine.specs.declared.code.Code.{Code}
 use Rattle.power_machine.specs.declared.code.Code.TheVariants.{Unfetched, Unknown, OneWord, TwoWords}
 use Rattle.power_machine.specs.declared.reason.Reason.{Reason}
 use Rattle.power_machine.specs.declared.reason.Reason.TheVariants as why
+use Rattle.power_machine.specs.declared.world.Event.{Event}
 use Rattle.power_machine.specs.declared.world.World.{World}
 use Rattle.power_machine.specs.declared.machine.Machine.{Machine}
 use Rattle.power_machine.specs.declared.machine.StepOutcome.{StepOutcome}
@@ -114,3 +115,7 @@ RunAnswers ranges n old new ending.Budget = Reaches ranges n old (Going new)
 RunAnswers ranges n old new (ending.Exited status) = Reaches ranges n old (Done status new)
 RunAnswers ranges n old new (ending.Left reason at) = Reaches ranges n old (Gone reason at new)
 RunAnswers ranges n old new ending.Memory = (k : ℕ) × (k < n) × Reaches ranges k old (Going new)
+
+-- the calls so far, and perhaps more
+abbrev pub Grows : List Event → List Event → Type 0
+Grows before now = (more : List Event) × (now ≡ before ++ more)

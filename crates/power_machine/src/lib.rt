@@ -5,6 +5,7 @@
 mod calls;
 mod code;
 mod contents;
+mod laws;
 mod loading;
 mod machine;
 mod memory;
@@ -12,6 +13,7 @@ mod reason;
 mod state;
 mod world;
 
+pub use laws::{ended_stays_ended, events_only_grow, leaves_change_nothing, steps_are_one};
 pub use machine::{Machine, Outcome, StepOutcome};
 pub use reason::Reason;
 pub use world::{Answer, Event, World};
