@@ -5,11 +5,14 @@ use Rattle.power_insns.specs.Laws.{one_word}
 use Rattle.prefixed_insns.specs.Laws.{one_pair}
 use Rattle.power_machine.specs.declared.code.Code.{Code}
 use Rattle.power_machine.specs.declared.code.Code.TheVariants.{Unfetched, Unknown, OneWord, TwoWords}
-use Rattle.power_machine.specs.Memory.{Range}
+use Rattle.std.specs.Prelude.{◌==◌, ◌||◌}
+use Rattle.power_machine.specs.declared.memory.Access.TheVariants.{Loading, Storing}
+use Rattle.power_machine.specs.declared.reason.Reason.TheVariants as why
+use Rattle.power_machine.specs.Memory.{Range, allows}
 use Rattle.power_machine.specs.Codes.{Stands}
 use Rattle.power_machine.specs.Calls.{Run, Stepped, Goes, Ends, Leaves}
 use Rattle.power_machine.specs.Steps.{Steps, StepsOn, IsStep, step_over, Made, Performs, Grows, run_after, next_of, operates, is_call}
-use Rattle.power_machine.specs.Calls.{calls, after_read, after_write, first_answer, event_of, read_bytes, written_bytes}
+use Rattle.power_machine.specs.Calls.{calls, call_number, exits, reads, writes, address_of, length_of, after_read, after_write, first_answer, event_of, read_bytes, written_bytes}
 use Rattle.power_machine.specs.Machines.{Next, Went, Left, exec}
 use Rattle.power_machine.specs.Numbers.{NumberState, numbers}
 use Rattle.power_machine.specs.declared.reason.Reason.{Reason}
@@ -80,14 +83,27 @@ by_next : (r : Run) (n : Next NumberState) → GrowsBy r (next_of r n)
 by_next r (Went s) = no_more r
 by_next r (Left reason) = no_more r
 
+by_reads : (ranges : List Range) (r : Run) → GrowsBy r (reads ranges r)
+by_reads ranges r =
+    let a = first_answer r.answers in
+    by_either r (allows Storing (address_of r.state) (length_of r.state) ranges) (Goes (after_read r a)) (Leaves why.Store r.state.at) (event_of 3 r.state a (read_bytes r a) ∷ [], refl) (no_more r)
+
+by_writes : (ranges : List Range) (r : Run) → GrowsBy r (writes ranges r)
+by_writes ranges r =
+    let a = first_answer r.answers in
+    by_either r (allows Loading (address_of r.state) (length_of r.state) ranges) (Goes (after_write r a)) (Leaves why.Load r.state.at) (event_of 4 r.state a (written_bytes r a) ∷ [], refl) (no_more r)
+
 by_calls : (ranges : List Range) (r : Run) → GrowsBy r (calls ranges r)
 by_calls ranges r =
-    by_either r _ _ _ (no_more r)
-    (by_either r _ _ _ (by_either r _ (Goes (after_read r (first_answer r.answers))) _ (event_of 3 r.state (first_answer r.answers) (read_bytes r (first_answer r.answers)) ∷ [], refl) (no_more r))
-    (by_either r _ _ _ (by_either r _ (Goes (after_write r (first_answer r.answers))) _ (event_of 4 r.state (first_answer r.answers) (written_bytes r (first_answer r.answers)) ∷ [], refl) (no_more r)) (no_more r)))
+    let none : Stepped = Leaves why.Call r.state.at in
+    let fourth : Stepped = cond (call_number r == 4) (writes ranges r) none in
+    let third : Stepped = cond (call_number r == 3) (reads ranges r) fourth in
+    by_either r (call_number r == 1 || call_number r == 234) (exits r) third (no_more r)
+    (by_either r (call_number r == 3) (reads ranges r) fourth (by_reads ranges r)
+    (by_either r (call_number r == 4) (writes ranges r) none (by_writes ranges r) (no_more r)))
 
 by_operation : (ranges : List Range) (r : Run) (size : ℕ) (p : Operation) → GrowsBy r (operates ranges r size p)
-by_operation ranges r size p = by_either r (is_call p) _ _ (by_calls ranges r) (by_next r (exec numbers size ranges p r.state))
+by_operation ranges r size p = by_either r (is_call p) (calls ranges r) (next_of r (exec numbers size ranges p r.state)) (by_calls ranges r) (by_next r (exec numbers size ranges p r.state))
 
 by_code : (ranges : List Range) (r : Run) (code : Code) → GrowsBy r (step_over ranges r code)
 by_code ranges r Unfetched = no_more r

@@ -1,7 +1,7 @@
 // What stands at an address as an instruction.
-ghost use Rattle.std.specs.Prelude.{◌≡◌, ◌%◌, ◌+◌, ◌^◌, ◌==◌, ◌&&◌, ℕ, Some, None, if◌then◌else◌};
+ghost use Rattle.std.specs.Prelude.{◌≡◌, ◌%◌, ◌+◌, ◌^◌, ◌==◌, ◌&&◌, ℕ, true, Some, None, if◌then◌else◌};
 ghost use Rattle.power_machine.specs.Memory.{ranges_of, byte_at};
-ghost use Rattle.power_machine.specs.Codes.{Stands, is_executable, word_in, IsOneWord, IsTwoWords};
+ghost use Rattle.power_machine.specs.Codes.{Stands, is_executable, word_in, HasNoWord};
 
 use crate::memory::{Access, Memory};
 use power_insns::meaning::Width;
@@ -45,13 +45,23 @@ pub fn code_at(memory: &Memory, at: u64) -> Code
     if let Some(insn) = decode(word) {
         return Code::OneWord(insn);
     }
+    pair_at(memory, at, word)
+}
+
+// What stands at an address whose word is no instruction.
+fn pair_at(memory: &Memory, at: u64, prefix: u32) -> Code
+    requires executable { is_executable (ranges_of memory.now.regions.items) at ≡ true }
+    requires prefix { prefix ≡ word_in (byte_at memory.now.regions.items) at }
+    requires no_word { HasNoWord (byte_at memory.now.regions.items) at }
+    ensures { Stands (ranges_of memory.now.regions.items) (byte_at memory.now.regions.items) at result }
+{
     if at % 64 == 60 {
         return Code::Unknown;
     }
     let Some(second) = fetch(memory, at.wrapping_add(4)) else {
         return Code::Unknown;
     };
-    match decode_pair(word, second) {
+    match decode_pair(prefix, second) {
         Some(insn) => Code::TwoWords(insn),
         None => Code::Unknown,
     }
