@@ -1,5 +1,5 @@
 -- One step, and what it keeps.
-use Rattle.std.proofs.Common.{◌≡◌, ℕ, Option, Some, None, List, [], ◌∷◌, ◌++◌, Bool, true, false, cond, refl, sym, ap, ◌∙◌, subst}
+use Rattle.std.proofs.Common.{◌≡◌, ℕ, Option, Some, None, List, [], ◌∷◌, Bool, true, false, cond, refl, sym, ap, ◌∙◌, subst}
 use Rattle.std.proofs.lemmas.List.{append-nil}
 use Rattle.power_insns.specs.Laws.{one_word}
 use Rattle.prefixed_insns.specs.Laws.{one_pair}
@@ -11,7 +11,7 @@ use Rattle.power_machine.specs.declared.reason.Reason.TheVariants as why
 use Rattle.power_machine.specs.Memory.{Range, allows}
 use Rattle.power_machine.specs.Codes.{Stands}
 use Rattle.power_machine.specs.Calls.{Run, Stepped, Goes, Ends, Leaves}
-use Rattle.power_machine.specs.Steps.{Steps, StepsOn, IsStep, step_over, Made, Performs, Grows, run_after, next_of, operates, is_call}
+use Rattle.power_machine.specs.Steps.{StepsOn, IsStep, step_over, Made, Performs, Grows, run_after, next_of, operates, is_call}
 use Rattle.power_machine.specs.Calls.{calls, call_number, exits, reads, writes, address_of, length_of, after_read, after_write, first_answer, event_of, read_bytes, written_bytes}
 use Rattle.power_machine.specs.Machines.{Next, Went, Left, exec}
 use Rattle.power_machine.specs.Numbers.{NumberState, numbers}

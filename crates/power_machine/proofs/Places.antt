@@ -1,19 +1,18 @@
 -- The segment that an access meets.
-use Rattle.std.proofs.Common.{◌≡◌, ◌≢◌, ℕ, zero, suc, ◌+◌, ◌-◌, ◌<◌, ◌≤◌, ◌^◌, Bool, true, false, ◌&&◌, ◌||◌, not, List, [], ◌∷◌, ◌++◌, length, map, take, drop, get_or, Option, Some, None, refl, sym, ap, ◌∙◌, subst, arith, add-one, add-zero, add_assoc, add_comm, cond, length-append, length-take, length-drop, get_or-drop, get_or-take}
-use Rattle.std.specs.Prelude.{is_some, nat_le, nat_lt, slice_index, slice_index_or, slice_set, IfSome}
+use Rattle.std.proofs.Common.{◌≡◌, ℕ, zero, suc, ◌+◌, ◌-◌, ◌<◌, ◌≤◌, Bool, true, ◌&&◌, ◌||◌, not, List, [], ◌∷◌, length, map, take, drop, get_or, Option, Some, None, refl, sym, ap, ◌∙◌, subst, arith, add-one, add-zero, add_assoc, add_comm, cond}
+use Rattle.std.specs.Prelude.{is_some, nat_le, nat_lt, slice_set}
 use Rattle.std.specs.List.{list_any, position, position_or_len}
 use Rattle.std.proofs.lemmas.List.Quantifiers.{position-Some}
 use Rattle.std.proofs.lemmas.List.{places}
 use Rattle.std.proofs.lemmas.Bool.Decides.{nat_tests}
-use Rattle.std.proofs.lemmas.Grind.{common_steps}
 use Rattle.std.proofs.Math.Seq.{drop-cons}
 use Rattle.power_machine.specs.declared.memory.Region.{Region}
 use Rattle.std.proofs.Math.ListN.{get_or-map}
 use Rattle.std.proofs.Math.Seq.{map-set_same}
 use Rattle.std.proofs.lemmas.List.{length-map}
 use Rattle.power_machine.specs.declared.memory.Access.{Access}
-use Rattle.power_machine.specs.declared.memory.Access.TheVariants.{Storing, Loading}
-use Rattle.power_machine.specs.Memory.{Range, InOrder, IsPlace, stop_of, range_of, ranges_of, holds, allows, place_of, covers, byte_at, bytes_from, put}
+use Rattle.power_machine.specs.declared.memory.Access.TheVariants.{Storing}
+use Rattle.power_machine.specs.Memory.{Range, InOrder, IsPlace, stop_of, range_of, ranges_of, holds, allows, place_of, byte_at, bytes_from, put}
 use Rattle.power_machine.specs.Bytes.{over}
 
 holds_parts : (access : Access) (at count : ℕ) (r : Range) → holds access at count r ≡ true → (r.start ≤ at) × (at + count ≤ r.stop)

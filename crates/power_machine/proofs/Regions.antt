@@ -1,18 +1,18 @@
 -- The regions of an executable's segments, and what they stand for.
-use Rattle.std.proofs.Common.{◌≡◌, ℕ, zero, suc, ◌+◌, ◌-◌, ◌<◌, ◌≤◌, ◌/◌, ◌%◌, Bool, true, false, ◌&&◌, List, [], ◌∷◌, ◌++◌, length, map, get_or, cond, refl, sym, ap, ◌∙◌, subst, arith, ⊎_elim, append_assoc}
+use Rattle.std.proofs.Common.{◌≡◌, ℕ, zero, suc, ◌+◌, ◌-◌, ◌<◌, ◌≤◌, Bool, true, false, ◌&&◌, List, [], ◌∷◌, ◌++◌, length, map, get_or, cond, refl, sym, ap, ◌∙◌, subst, arith, ⊎_elim, append_assoc}
 use Rattle.std.specs.Prelude.{nat_le, nat_lt, replicate}
-use Rattle.std.specs.List.{All, AllPairs}
-use Rattle.std.proofs.lemmas.List.{length-replicate, get_or-replicate, length-append, map-append, length-map, get_or_default}
+use Rattle.std.specs.List.{All}
+use Rattle.std.proofs.lemmas.List.{length-replicate, length-append, length-map, get_or_default}
 use Rattle.std.proofs.lemmas.List.Elements.{All-tail}
 use Rattle.std.proofs.lemmas.Bool.{cases_lt}
 use Rattle.std.proofs.Math.ListN.{get_or-append, get_or-map}
 use Rattle.std.proofs.Math.Seq.{get_or-append_right}
 use Rattle.elf64_exec.specs.declared.layout.Segment.{Segment}
-use Rattle.elf64_exec.specs.Executable.{end_of, IsSound, IsBefore, ArePlaced}
+use Rattle.elf64_exec.specs.Executable.{end_of, IsSound, ArePlaced}
 use Rattle.power_machine.specs.declared.memory.Region.{Region}
-use Rattle.power_machine.specs.Memory.{Range, InOrder, stop_of, range_of, ranges_of, byte_at}
+use Rattle.power_machine.specs.Memory.{InOrder, stop_of, ranges_of, byte_at}
 use Rattle.power_machine.specs.Numbers.{NumberState}
-use Rattle.power_machine.specs.Start.{start_registers, start_state, segment_range, stack_range, start_ranges, start_byte, region_of, stack_region, zeros}
+use Rattle.power_machine.specs.Start.{start_registers, start_state, segment_range, start_ranges, start_byte, region_of, stack_region, zeros}
 
 -- the number 0
 abbrev nought : ℕ
@@ -95,9 +95,9 @@ regions_in_order xs placed =
     let all = map region_of xs ++ stack_region ∷ [] in
     let count = count_is xs in
     let stop : (i : ℕ) (d : Region) → i < length xs → stop_of (get_or all i d) ≡ end_of (get_or xs i empty) =
-            λ i d h. ap stop_of (at_segment xs i d h) ∙ region_stop (get_or xs i empty) (placed.sound i empty h) in
+    λ i d h. ap stop_of (at_segment xs i d h) ∙ region_stop (get_or xs i empty) (placed.sound i empty h) in
     let below : (i : ℕ) (d : Region) → i < length xs → stop_of (get_or all i d) ≤ 0x70000000 =
-            λ i d h. (let e = stop i d h in let b = (placed.sound i empty h).below in omega (arith, e, b)) in
+    λ i d h. (let e = stop i d h in let b = (placed.sound i empty h).below in omega (arith, e, b)) in
     record {
       low = λ i d h.
           ⊎_elim

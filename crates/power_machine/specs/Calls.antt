@@ -1,5 +1,5 @@
 -- System calls: exit, exit_group, read and write, answered by a world (the numbers are Linux's for 64-bit Power).
-use Rattle.std.specs.Prelude.{◌≡◌, ◌≤◌, ℕ, ◌+◌, ◌%◌, min, Bool, true, false, ◌||◌, List, [], ◌∷◌, ◌++◌, length, take, drop, Option, Some, None, slice_index, slice_set, slice_get, if◌then◌else◌, ◌==◌}
+use Rattle.std.specs.Prelude.{◌≡◌, ◌≤◌, ℕ, ◌%◌, min, Bool, true, false, ◌||◌, List, [], ◌∷◌, ◌++◌, length, take, drop, Option, Some, slice_index, slice_set, slice_get, if◌then◌else◌, ◌==◌}
 use Rattle.power_machine.specs.declared.memory.Access.TheVariants.{Loading, Storing}
 use Rattle.power_machine.specs.declared.reason.Reason.{Reason}
 use Rattle.power_machine.specs.declared.reason.Reason.TheVariants as why
@@ -7,7 +7,7 @@ use Rattle.power_machine.specs.declared.world.Answer.{Answer}
 use Rattle.power_machine.specs.declared.world.Answer.TheVariants.{Whole, Short, Error}
 use Rattle.power_machine.specs.declared.world.Event.{Event}
 use Rattle.power_machine.specs.Memory.{Range, allows, bytes_from, put}
-use Rattle.power_machine.specs.Machines.{State, sum_address}
+use Rattle.power_machine.specs.Machines.{sum_address}
 use Rattle.power_machine.specs.Numbers.{NumberState}
 
 -- an error's number

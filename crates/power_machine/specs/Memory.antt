@@ -1,5 +1,5 @@
 -- Memory: ranges of addresses that are allowed, which never change, and a byte at each address.
-use Rattle.std.specs.Prelude.{◌≡◌, ℕ, zero, suc, ◌+◌, ◌-◌, ◌≤◌, ◌<◌, Bool, true, ◌&&◌, List, [], ◌∷◌, length, map, Option, Some, None, nat_le, nat_lt, if◌then◌else◌, slice_index, slice_index_or}
+use Rattle.std.specs.Prelude.{ℕ, zero, suc, ◌+◌, ◌-◌, ◌≤◌, ◌<◌, Bool, true, ◌&&◌, List, [], ◌∷◌, length, map, Option, nat_le, nat_lt, if◌then◌else◌, slice_index, slice_index_or}
 use Rattle.std.specs.List.{list_any, position}
 use Rattle.power_machine.specs.declared.memory.Access.{Access}
 use Rattle.power_machine.specs.declared.memory.Access.TheVariants.{Loading, Storing, Fetching}

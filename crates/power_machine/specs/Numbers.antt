@@ -1,13 +1,12 @@
 -- The machine of numbers.
-use Rattle.std.specs.Prelude.{◌≡◌, ℕ, ◌+◌, ◌*◌, ◌/◌, ◌%◌, ◌^◌, Bool, false, Some, List, take}
-use Rattle.power_insns.specs.declared.meaning.Operation.{Operation}
+use Rattle.std.specs.Prelude.{◌≡◌, ℕ, ◌*◌, ◌/◌, Bool, false, Some, List, take}
 use Rattle.power_insns.specs.Arithmetic.{bytes_of, function_of, compared, widened}
 use Rattle.power_machine.specs.declared.state.Core.{Core}
 use Rattle.power_machine.specs.declared.state.CoreOutcome.{CoreOutcome}
 use Rattle.power_machine.specs.declared.state.CoreOutcome.TheVariants.{Went as Went', Left as Left'}
 use Rattle.power_machine.specs.Bytes.{spelled, bytes_of_long}
 use Rattle.power_machine.specs.Memory.{Range, ranges_of, byte_at}
-use Rattle.power_machine.specs.Machines.{Domain, State, Next, Went, Left, exec, sum_address}
+use Rattle.power_machine.specs.Machines.{Domain, State, Next, Went, Left, sum_address}
 
 abbrev pub numbers : Domain ℕ ℕ Bool ℕ
 numbers = record {

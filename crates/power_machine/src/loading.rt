@@ -14,6 +14,7 @@ use std::alloc::Global;
 
 // Where the stack begins, and how many bytes it has.
 const STACK_START: u64 = 0x7F80_0000;
+
 const STACK_SIZE: usize = 0x80_0000;
 
 // The region of a segment: its bytes, and zeros up to its size.

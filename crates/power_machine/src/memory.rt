@@ -6,8 +6,8 @@ ghost use Rattle.power_machine.specs.Bytes.{spelled};
 ghost use Rattle.power_machine.specs.Memory.{InOrder, IsPlace, permits, place_of, range_of, ranges_of, byte_at, bytes_from, put, allows};
 
 use crate::contents::{Contents, number_in};
-use ppc_bytes::Bytes;
 use power_insns::meaning::Width;
+use ppc_bytes::Bytes;
 use std::alloc::{AllocError, Global};
 
 /// What bytes of memory are wanted for.
@@ -55,10 +55,7 @@ fn place(regions: &[Region], access: Access, at: u64, count: u64) -> Option<usiz
 {
     regions.iter().position(|r| {
         let size = r.bytes.len() as u64;
-        r.start <= at
-            && at - r.start <= size
-            && count <= size - (at - r.start)
-            && r.permits(access)
+        r.start <= at && at - r.start <= size && count <= size - (at - r.start) && r.permits(access)
     })
 }
 

@@ -64,7 +64,11 @@ impl Core {
     {
         self.registers[to as usize] = value;
         if rc {
-            set_field(&mut self.condition, 0, compare(Width::Long, Sign::Signed, value, 0));
+            set_field(
+                &mut self.condition,
+                0,
+                compare(Width::Long, Sign::Signed, value, 0),
+            );
         }
         self.at = self.at.wrapping_add(size);
         CoreOutcome::Went
@@ -100,7 +104,14 @@ impl Core {
     }
 
     #[tactic(auto, unfolding(crate::specs::Bytes::bytes_of_long))]
-    fn store(&mut self, size: u64, width: Width, from: u32, update: Option<u32>, at: u64) -> CoreOutcome
+    fn store(
+        &mut self,
+        size: u64,
+        width: Width,
+        from: u32,
+        update: Option<u32>,
+        at: u64,
+    ) -> CoreOutcome
         requires from { from < 34 }
         requires update { NamesUpdate update }
         ensures { Did (store_at numbers size (core_ranges self.old) (state_of self.old) width from update at) self.old self.new result }
@@ -138,7 +149,14 @@ impl Core {
         }
     }
 
-    fn branch(&mut self, size: u64, counter: Counter, condition: Condition, target: Target, link: bool) -> CoreOutcome
+    fn branch(
+        &mut self,
+        size: u64,
+        counter: Counter,
+        condition: Condition,
+        target: Target,
+        link: bool,
+    ) -> CoreOutcome
         requires bit { NamesBit condition }
         requires target { NamesTarget target }
         ensures { Did (branch numbers size (state_of self.old) counter condition target link) self.old self.new result }
@@ -174,7 +192,13 @@ impl Core {
                 let value = self.value_of(from);
                 self.finish(size, to, value, rc)
             }
-            Operation::Calculate { function, to, x, y, rc } => {
+            Operation::Calculate {
+                function,
+                to,
+                x,
+                y,
+                rc,
+            } => {
                 let value = compute(function, self.value_of(x), self.value_of(y));
                 self.finish(size, to, value, rc)
             }
@@ -183,21 +207,42 @@ impl Core {
                 let y = self.value_of(y);
                 self.divide(size, sign, to, x, y, rc)
             }
-            Operation::Compare { field, width, sign, x, y } => {
+            Operation::Compare {
+                field,
+                width,
+                sign,
+                x,
+                y,
+            } => {
                 let bits = compare(width, sign, self.value_of(x), self.value_of(y));
                 self.set_order(size, field, bits)
             }
-            Operation::Load { width, sign, to, base, offset } => {
+            Operation::Load {
+                width,
+                sign,
+                to,
+                base,
+                offset,
+            } => {
                 let at = self.value_of(base).wrapping_add(self.value_of(offset));
                 self.load(size, width, sign, to, at)
             }
-            Operation::Store { width, from, base, offset, update } => {
+            Operation::Store {
+                width,
+                from,
+                base,
+                offset,
+                update,
+            } => {
                 let at = self.value_of(base).wrapping_add(self.value_of(offset));
                 self.store(size, width, from, update, at)
             }
-            Operation::Branch { counter, condition, target, link } => {
-                self.branch(size, counter, condition, target, link)
-            }
+            Operation::Branch {
+                counter,
+                condition,
+                target,
+                link,
+            } => { self.branch(size, counter, condition, target, link) }
             Operation::System => CoreOutcome::Left(Reason::Call),
         }
     }

@@ -29,10 +29,7 @@ fn program(alloc: Global, words: &[u32]) -> Result<Segments, Memory>
         bytes: Bytes::of(bytes),
         size,
     })?;
-    Ok(Segments {
-        entry: START,
-        list,
-    })
+    Ok(Segments { entry: START, list })
 }
 
 // A world without answers, and with this input.
@@ -62,16 +59,34 @@ fn the_smallest_program_exits_in_three_steps(rt: HostRuntime) -> Result<(), Fail
 #[test]
 fn each_reason_to_leave_once(rt: HostRuntime) -> Result<(), Fail> {
     // a branch to 0x10000040, behind the text
-    assert_eq!(rt; run(rt.alloc(), &[0x4800_0040], 9)?, Outcome::Left(Reason::Fetch, 0x1000_0040));
-    assert_eq!(rt; run(rt.alloc(), &[0], 9)?, Outcome::Left(Reason::Word, START));
+    assert_eq!(rt;
+        run(rt.alloc(), &[0x4800_0040], 9)?,
+        Outcome::Left(Reason::Fetch, 0x1000_0040)
+    );
+    assert_eq!(rt;
+        run(rt.alloc(), &[0], 9)?,
+        Outcome::Left(Reason::Word, START)
+    );
     // ld r3,0(0)
-    assert_eq!(rt; run(rt.alloc(), &[0xE860_0000], 9)?, Outcome::Left(Reason::Load, START));
+    assert_eq!(rt;
+        run(rt.alloc(), &[0xE860_0000], 9)?,
+        Outcome::Left(Reason::Load, START)
+    );
     // std r3,0(r12) into the text
-    assert_eq!(rt; run(rt.alloc(), &[0xF86C_0000], 9)?, Outcome::Left(Reason::Store, START));
+    assert_eq!(rt;
+        run(rt.alloc(), &[0xF86C_0000], 9)?,
+        Outcome::Left(Reason::Store, START)
+    );
     // li r3,5; divd r3,r3,r4
-    assert_eq!(rt; run(rt.alloc(), &[0x3860_0005, 0x7C63_23D2], 9)?, Outcome::Left(Reason::Divide, 0x1000_0004));
+    assert_eq!(rt;
+        run(rt.alloc(), &[0x3860_0005, 0x7C63_23D2], 9)?,
+        Outcome::Left(Reason::Divide, 0x1000_0004)
+    );
     // li r0,2; sc
-    assert_eq!(rt; run(rt.alloc(), &[0x3800_0002, 0x4400_0002], 9)?, Outcome::Left(Reason::Call, 0x1000_0004));
+    assert_eq!(rt;
+        run(rt.alloc(), &[0x3800_0002, 0x4400_0002], 9)?,
+        Outcome::Left(Reason::Call, 0x1000_0004)
+    );
     Ok(())
 }
 
@@ -81,7 +96,10 @@ fn a_pair_may_not_cross_a_boundary_of_64_bytes(rt: HostRuntime) -> Result<(), Fa
     let mut words = [0x6000_0000; 20];
     words[15] = 0x0600_0000;
     words[16] = 0x3860_0007;
-    assert_eq!(rt; run(rt.alloc(), &words, 99)?, Outcome::Left(Reason::Word, 0x1000_003C));
+    assert_eq!(rt;
+        run(rt.alloc(), &words, 99)?,
+        Outcome::Left(Reason::Word, 0x1000_003C)
+    );
     // at offset 0, then li r0,1; sc
     let words = [0x0600_0000, 0x3860_0007, 0x3800_0001, 0x4400_0002];
     assert_eq!(rt; run(rt.alloc(), &words, 3)?, Outcome::Exited(7));
@@ -123,7 +141,10 @@ fn a_read_is_answered_whole_short_and_by_error(rt: HostRuntime) -> Result<(), Fa
         let events = machine.events();
         assert_eq!(rt; events.len(), 1);
         for event in events {
-            assert_eq!(rt; (event.number, event.fd, event.address, event.length), (3, 0, 0x7FFF_EF00, 16));
+            assert_eq!(rt;
+                (event.number, event.fd, event.address, event.length),
+                (3, 0, 0x7FFF_EF00, 16)
+            );
             assert_eq!(rt; event.bytes.as_slice(), bytes);
             assert_eq!(rt; event.error, error);
         }

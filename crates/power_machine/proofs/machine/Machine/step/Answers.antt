@@ -1,7 +1,7 @@
-use Rattle.std.proofs.Common.{refl, sym, subst}
+use Rattle.std.proofs.Common.{refl, subst}
 use Rattle.power_machine.specs.declared.code.Code.TheVariants.{Unfetched, Unknown, OneWord, TwoWords}
 use Rattle.power_machine.specs.Steps.{run_of, machine_ranges, Performs, operates}
-use Rattle.power_machine.proofs.Stepping.{made_over, made_by, not_ended}
+use Rattle.power_machine.proofs.Stepping.{made_over, made_by}
 use Rattle.power_machine.proofs.machine.Machine.step.Goals as goal
 
 pub returns-in-Some-clause-made : goal.returns-in-Some-clause-made

@@ -1,5 +1,4 @@
 use Rattle.std.proofs.Common.{ap, ◌≡◌, ◌∙◌, ◌-◌, ◌+◌, take, drop, arith}
-use Rattle.std.specs.Prelude.{List, ℕ}
 use Rattle.power_machine.specs.declared.memory.Access.TheVariants.{Loading}
 use Rattle.power_machine.proofs.Places.{read_none, read_some}
 use Rattle.power_machine.proofs.memory.Memory.copy_at.Goals as goal

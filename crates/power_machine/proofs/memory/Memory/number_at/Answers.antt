@@ -1,4 +1,4 @@
-use Rattle.std.proofs.Common.{ap, ◌∙◌, ◌-◌, ◌≤◌, take, drop, arith, subst}
+use Rattle.std.proofs.Common.{ap, ◌∙◌, ◌-◌, take, drop, arith, subst}
 use Rattle.power_insns.specs.Arithmetic.{bytes_of}
 use Rattle.power_machine.specs.Bytes.{spelled}
 use Rattle.power_machine.specs.Memory.{place_of, IsPlace}

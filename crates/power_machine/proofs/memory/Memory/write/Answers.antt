@@ -1,4 +1,4 @@
-use Rattle.std.proofs.Common.{refl, true}
+use Rattle.std.proofs.Common.{refl}
 use Rattle.power_machine.specs.declared.memory.Access.TheVariants.{Storing}
 use Rattle.power_machine.proofs.Places.{allowed_is, stored}
 use Rattle.power_machine.proofs.memory.Memory.write.Goals as goal
