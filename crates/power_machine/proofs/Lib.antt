@@ -1,0 +1,4 @@
+pub mod Places
+pub mod Stepping
+pub mod Regions
+pub mod OneStep

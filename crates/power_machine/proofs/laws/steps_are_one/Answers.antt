@@ -1,0 +1,5 @@
+use Rattle.power_machine.proofs.OneStep.{one_step}
+use Rattle.power_machine.proofs.laws.steps_are_one.Goals as goal
+
+pub returns : goal.returns
+returns c = one_step

@@ -1,0 +1,70 @@
+-- Memory: ranges of addresses that are allowed, which never change, and a byte at each address.
+use Rattle.std.specs.Prelude.{ℕ, zero, suc, ◌+◌, ◌-◌, ◌≤◌, ◌<◌, Bool, true, ◌&&◌, List, [], ◌∷◌, length, map, Option, nat_le, nat_lt, if◌then◌else◌, slice_index, slice_index_or}
+use Rattle.std.specs.List.{list_any, position}
+use Rattle.power_machine.specs.declared.memory.Access.{Access}
+use Rattle.power_machine.specs.declared.memory.Access.TheVariants.{Loading, Storing, Fetching}
+use Rattle.power_machine.specs.declared.memory.Region.{Region}
+
+-- the addresses from start up to stop, and what they allow beside loads
+pub record Range : Type 0 where
+  pub start : ℕ
+  pub stop : ℕ
+  pub writable : Bool
+  pub executable : Bool
+
+-- each range may be loaded from
+abbrev pub permits : Access → Range → Bool
+permits Loading r = true
+permits Storing r = r.writable
+permits Fetching r = r.executable
+
+-- so many bytes at an address lie in the range, which allows the access
+abbrev pub holds : Access → ℕ → ℕ → Range → Bool
+holds access at count r = nat_le r.start at && nat_le (at + count) r.stop && permits access r
+
+-- one range holds them all
+abbrev pub allows : Access → ℕ → ℕ → List Range → Bool
+allows access at count ranges = list_any (holds access at count) ranges
+
+-- so many bytes from an address on
+abbrev pub bytes_from : {B : Type 0} → (ℕ → B) → ℕ → ℕ → List B
+bytes_from byte at zero = []
+bytes_from byte at (suc n) = byte at ∷ bytes_from byte (at + 1) n
+
+-- the memory after bytes are put at an address
+abbrev pub put : {B : Type 0} → (ℕ → B) → ℕ → List B → ℕ → B
+put byte at bytes a = if nat_le at a && nat_lt a (at + length bytes) then slice_index_or bytes (a - at) (byte a) else byte a
+
+-- What the machine's regions stand for.
+abbrev pub stop_of : Region → ℕ
+stop_of r = r.start + length r.bytes
+
+abbrev pub range_of : Region → Range
+range_of r = record { start = r.start; stop = stop_of r; writable = r.writable; executable = r.executable }
+
+abbrev pub ranges_of : List Region → List Range
+ranges_of regions = map range_of regions
+
+abbrev pub covers : Region → ℕ → Bool
+covers r a = nat_le r.start a && nat_lt a (stop_of r)
+
+-- the byte at an address, 0 outside the regions
+abbrev pub byte_at : List Region → ℕ → ℕ
+byte_at [] a = 0
+byte_at (r ∷ regions) a = if covers r a then slice_index r.bytes (a - r.start) else byte_at regions a
+
+-- the regions end at or below 2^31, are in order of their addresses, and none overlaps another
+pub record InOrder (regions : List Region) : Type 0 where
+  pub low : (i : ℕ) (d : Region) → i < length regions → stop_of (slice_index_or regions i d) ≤ 0x80000000
+  pub apart : (i j : ℕ) (d : Region) → i < j → j < length regions → stop_of (slice_index_or regions i d) ≤ (slice_index_or regions j d).start
+
+-- the first region that holds so many bytes at an address
+abbrev pub place_of : Access → ℕ → ℕ → List Region → Option ℕ
+place_of access at count regions = position (λ r. holds access at count (range_of r)) regions
+
+-- the region with this index has them
+pub record IsPlace (access : Access) (at count : ℕ) (regions : List Region) (index : ℕ) : Type 0 where
+  pub within : index < length regions
+  pub starts : (d : Region) → (slice_index_or regions index d).start ≤ at
+  pub ends : (d : Region) → at + count ≤ stop_of (slice_index_or regions index d)
+  pub low : (d : Region) → stop_of (slice_index_or regions index d) ≤ 0x80000000

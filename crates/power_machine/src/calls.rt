@@ -1,0 +1,115 @@
+// System calls.
+ghost use Rattle.std.specs.Prelude.{◌≡◌, ◌<◌, ◌≤◌, ◌+◌, ◌%◌, ◌||◌, ◌==◌, ℕ, List, Some, None, length};
+ghost use Rattle.power_machine.specs.Memory.{byte_at};
+ghost use Rattle.power_machine.specs.Calls.{calls, reads, writes, exits, after_call};
+ghost use Rattle.power_machine.specs.Numbers.{core_ranges, state_of};
+ghost use Rattle.power_machine.specs.Steps.{run_of, machine_ranges, Performs};
+
+use crate::machine::{Machine, StepOutcome};
+use crate::memory::Access;
+use crate::reason::Reason;
+use crate::state::Core;
+use crate::world::{Answer, Event, World};
+use ppc_bytes::Bytes;
+
+impl Core {
+    // After a call that was answered, where so many bytes came or went.
+    fn called(&mut self, answer: Answer, count: u64)
+        ensures state { state_of self.new ≡ after_call (state_of self.old) answer count (byte_at self.old.memory.regions.items) }
+        ensures memory { self.new.memory ≡ self.old.memory }
+    {
+        self.registers[3] = answer.result(count);
+        self.condition[3] = answer.is_error();
+        self.at = self.at.wrapping_add(4);
+    }
+}
+
+impl Machine {
+    fn exit(&mut self, world: &mut World) -> StepOutcome
+        requires { self.old.ended ≡ None }
+        ensures performs { Performs (exits (run_of self.old world.old)) (run_of self.old world.old) (run_of self.new world.new) result }
+        ensures ranges { machine_ranges self.new ≡ machine_ranges self.old }
+    {
+        let status = (self.core.registers[3] % 256) as u8;
+        self.ended = Some(status);
+        StepOutcome::Ended(status)
+    }
+
+    fn read(&mut self, world: &mut World) -> StepOutcome
+        requires { self.old.ended ≡ None }
+        ensures performs { Performs (reads (machine_ranges self.old) (run_of self.old world.old)) (run_of self.old world.old) (run_of self.new world.new) result }
+        ensures ranges { machine_ranges self.new ≡ machine_ranges self.old }
+    {
+        let address = self.core.registers[4];
+        let length = self.core.registers[5];
+        if !self.core.memory.allows(Access::Storing, address, length) {
+            return StepOutcome::Left(Reason::Store, self.core.at);
+        }
+        let answer = world.next();
+        let most = answer.granted(length);
+        let bytes = world.next_bytes(most);
+        let count = bytes.len() as u64;
+        let Ok(copy) = Vec::from_slice(self.alloc, bytes) else {
+            return StepOutcome::Memory;
+        };
+        let event = Event {
+            number: 3,
+            fd: self.core.registers[3],
+            address,
+            length,
+            bytes: Bytes::of(copy),
+            error: answer.error(),
+        };
+        if self.events.push(event).is_err() {
+            return StepOutcome::Memory;
+        }
+        self.core.memory.write(address, length, bytes);
+        self.core.called(answer, count);
+        world.take(most);
+        StepOutcome::Went
+    }
+
+    fn write(&mut self, world: &mut World) -> StepOutcome
+        requires { self.old.ended ≡ None }
+        ensures performs { Performs (writes (machine_ranges self.old) (run_of self.old world.old)) (run_of self.old world.old) (run_of self.new world.new) result }
+        ensures ranges { machine_ranges self.new ≡ machine_ranges self.old }
+    {
+        let address = self.core.registers[4];
+        let length = self.core.registers[5];
+        let answer = world.next();
+        let count = answer.granted(length);
+        let bytes = match self.core.memory.copy_at(self.alloc, address, length, count) {
+            Ok(Some(bytes)) => bytes,
+            Ok(None) => return StepOutcome::Left(Reason::Load, self.core.at),
+            Err(_) => return StepOutcome::Memory,
+        };
+        let event = Event {
+            number: 4,
+            fd: self.core.registers[3],
+            address,
+            length,
+            bytes,
+            error: answer.error(),
+        };
+        if self.events.push(event).is_err() {
+            return StepOutcome::Memory;
+        }
+        self.core.called(answer, count);
+        world.take(0);
+        StepOutcome::Went
+    }
+
+    // A call of the system, by its number in r0.
+    pub(crate) fn call(&mut self, world: &mut World) -> StepOutcome
+        requires { self.old.ended ≡ None }
+        ensures performs { Performs (calls (machine_ranges self.old) (run_of self.old world.old)) (run_of self.old world.old) (run_of self.new world.new) result }
+        ensures ranges { machine_ranges self.new ≡ machine_ranges self.old }
+    {
+        match self.core.registers[0] {
+            1 | 234 => self.exit(world),
+            3 => self.read(world),
+            4 => self.write(world),
+            _ => StepOutcome::Left(Reason::Call, self.core.at),
+        }
+    }
+}

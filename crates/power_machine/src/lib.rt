@@ -1,0 +1,22 @@
+// A machine that runs static executables for little-endian 64-bit Power (Power ISA 3.1, books I and III; ELFv2 ABI for the start): registers,
+// memory, fetches, operations and four system calls, in a world that answers reads and writes.
+#![tactic(auto)]
+
+mod calls;
+mod code;
+mod contents;
+mod laws;
+mod loading;
+mod machine;
+mod memory;
+mod reason;
+mod state;
+mod world;
+
+pub use laws::{ended_stays_ended, events_only_grow, leaves_change_nothing, steps_are_one};
+pub use machine::{Machine, Outcome, StepOutcome};
+pub use reason::Reason;
+pub use world::{Answer, Event, World};
+
+#[cfg(test)]
+mod tests;

@@ -1,0 +1,130 @@
+// Memory: regions of bytes.
+ghost use Rattle.std.specs.Prelude.{◌≡◌, ◌+◌, ◌≤◌, ◌<◌, ◌-◌, ◌^◌, ℕ, List, length, IfSome, IfOk, true, false, if◌then◌else◌, Some, None};
+ghost use Rattle.power_insns.specs.Arithmetic.{bytes_of};
+ghost use Rattle.power_machine.specs.declared.memory.Access.TheVariants.{Loading, Storing};
+ghost use Rattle.power_machine.specs.Bytes.{spelled};
+ghost use Rattle.power_machine.specs.Memory.{InOrder, IsPlace, permits, place_of, range_of, ranges_of, byte_at, bytes_from, put, allows};
+
+use crate::contents::{Contents, number_in};
+use power_insns::meaning::Width;
+use ppc_bytes::Bytes;
+use std::alloc::{AllocError, Global};
+
+/// What bytes of memory are wanted for.
+#[derive(Clone, Copy)]
+pub enum Access {
+    Loading,
+    Storing,
+    Fetching,
+}
+
+/// Bytes from an address on.
+#[derive(Drop)]
+pub struct Region {
+    pub start: u64,
+    pub writable: bool,
+    pub executable: bool,
+    pub bytes: Contents,
+}
+
+impl Region {
+    fn permits(&self, access: Access) -> bool
+        ensures { result ≡ permits access (range_of self.now) }
+    {
+        match access {
+            Access::Loading => true,
+            Access::Storing => self.writable,
+            Access::Fetching => self.executable,
+        }
+    }
+}
+
+/// The regions, in order of their addresses.
+#[derive(Drop)]
+pub struct Memory {
+    pub regions: Vec<Region>,
+    ghost in_order: { InOrder regions.items },
+}
+
+// The region that holds so many bytes at an address.
+#[tactic(auto, using(crate::proofs::Places::place_found))]
+fn place(regions: &[Region], access: Access, at: u64, count: u64) -> Option<usize>
+    requires { InOrder regions.now }
+    ensures value { result ≡ place_of access at count regions.now }
+    ensures found { IfSome result (λ index. IsPlace access at count regions.now index) }
+{
+    regions.iter().position(|r| {
+        let size = r.bytes.len() as u64;
+        r.start <= at && at - r.start <= size && count <= size - (at - r.start) && r.permits(access)
+    })
+}
+
+impl Memory {
+    /// Whether so many bytes at an address may be used.
+    pub fn allows(&self, access: Access, at: u64, count: u64) -> bool
+        ensures { result ≡ allows access at count (ranges_of self.now.regions.items) }
+    {
+        place(&self.regions, access, at, count).is_some()
+    }
+
+    /// The number at an address, where it may be used.
+    pub fn number_at(&self, access: Access, at: u64, width: Width) -> Option<u64>
+        ensures value { result ≡ (if allows access at (bytes_of width) (ranges_of self.now.regions.items) then Some (spelled (bytes_from (byte_at self.now.regions.items) at (bytes_of width))) else None) }
+        ensures bound { IfSome result (λ n. n < 256 ^ bytes_of width) }
+    {
+        let Some(index) = place(&self.regions, access, at, size_of(width)) else {
+            return None;
+        };
+        let region = &self.regions[index];
+        Some(number_in(region.bytes.as_slice(), (at - region.start) as usize, width))
+    }
+
+    /// Puts bytes at an address, where a number of bytes may be stored there.
+    pub fn write(&mut self, at: u64, room: u64, bytes: &[u8]) -> bool
+        requires { length bytes.now ≤ room }
+        ensures allowed { result ≡ allows Storing at room (ranges_of self.old.regions.items) }
+        ensures ranges { ranges_of self.new.regions.items ≡ ranges_of self.old.regions.items }
+        ensures stored { result ≡ true → byte_at self.new.regions.items ≡ put (byte_at self.old.regions.items) at bytes.now }
+        ensures refused { result ≡ false → self.new ≡ self.old }
+    {
+        let Some(index) = place(&self.regions, Access::Storing, at, room) else {
+            return false;
+        };
+        let region = &mut self.regions[index];
+        let from = (at - region.start) as usize;
+        region.bytes.write(from, bytes);
+        true
+    }
+
+    /// The first bytes at an address, where a number of bytes may be loaded there.
+    pub fn copy_at(
+        &self,
+        alloc: Global,
+        at: u64,
+        room: u64,
+        count: u64,
+    ) -> Result<Option<Bytes>, AllocError>
+        requires { count ≤ room }
+        ensures { IfOk result (λ bytes. bytes ≡ (if allows Loading at room (ranges_of self.now.regions.items) then Some (bytes_from (byte_at self.now.regions.items) at count) else None)) }
+    {
+        let Some(index) = place(&self.regions, Access::Loading, at, room) else {
+            return Ok(None);
+        };
+        let region = &self.regions[index];
+        let from = (at - region.start) as usize;
+        let bytes = region.bytes.as_slice();
+        Ok(Some(Bytes::of(Vec::from_slice(alloc, &bytes[from..from + count as usize])?)))
+    }
+}
+
+// How many bytes a number has.
+pub fn size_of(width: Width) -> u64
+    ensures { result ≡ bytes_of width }
+{
+    match width {
+        Width::Byte => 1,
+        Width::Half => 2,
+        Width::Word => 4,
+        Width::Long => 8,
+    }
+}
