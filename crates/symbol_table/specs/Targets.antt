@@ -1,0 +1,107 @@
+-- Where records and the entry go (ELFv2 ABI, 3.4 "Symbol Table"; ELF64, "Relocation": S + A).
+use Rattle.std.specs.Prelude.{ℕ, ℤ, ◌+◌, ◌%◌, ◌^◌, Bool, true, false, List, [], ◌||◌, ◌&&◌, ◌==◌, Option, Some, None, length, filter_map, take, nat_lt, if◌then◌else◌}
+use Rattle.std.specs.List.{position_or_len}
+use Rattle.std.specs.Str.{bytes_eq}
+use Rattle.elf64_records.specs.Sections.{sh_size}
+use Rattle.elf64_records.specs.Symbols.{st_value}
+use Rattle.object_set.specs.Files.{file_at}
+use Rattle.object_set.specs.Symbols.{name_of, is_local, is_weak, is_absolute, is_toc_base, index_of, lies_in_kept, lies_in_text}
+use Rattle.object_set.specs.declared.refusal.Refusal.{Refusal}
+use Rattle.object_set.specs.declared.refusal.Refusal.TheVariants.{NoEntry, EntryNotCode}
+use Rattle.symbol_table.specs.declared.claims.Stand.{Stand}
+use Rattle.symbol_table.specs.declared.claims.Stand.TheVariants as stand
+use Rattle.symbol_table.specs.declared.target.CodePlace.{CodePlace}
+use Rattle.symbol_table.specs.declared.target.Piece.{Piece}
+use Rattle.symbol_table.specs.declared.target.Piece.TheVariants as piece
+use Rattle.symbol_table.specs.declared.target.Target.{Target}
+use Rattle.symbol_table.specs.declared.target.Target.TheVariants as target
+use Rattle.symbol_table.specs.Known.{known_symbols, names_of}
+use Rattle.symbol_table.specs.Claims.{stands_for}
+use Rattle.symbol_table.specs.Text.{text_place}
+use Rattle.std.specs.Int.{cast_signed, cast_unsigned}
+use Rattle.std.specs.Int.{w64}
+
+-- the size and alignment of the common for which a name stands
+abbrev pub shared : Stand → Option (ℕ × ℕ)
+shared (stand.Definition file number) = None
+shared (stand.Common size align) = Some (size, align)
+shared stand.Nothing = None
+
+-- the commons of the first n names, in first-seen order
+abbrev pub commons_before : List (List ℕ) → ℕ → List (ℕ × ℕ)
+commons_before set n = filter_map (λ name. shared (stands_for set name)) (take n (names_of (known_symbols set)))
+
+-- the size and alignment of each common, in first-seen order of the names
+abbrev pub commons : List (List ℕ) → List (ℕ × ℕ)
+commons set = commons_before set (length (names_of (known_symbols set)))
+
+-- how many names before this one stand for a common: the number of its common
+abbrev pub common_number : List (List ℕ) → List ℕ → ℕ
+common_number set name = length (commons_before set (position_or_len (bytes_eq name) (names_of (known_symbols set))))
+
+-- a sum modulo 2^64
+abbrev pub moved : ℕ → ℤ → ℕ
+moved value addend = (value + cast_unsigned w64 addend) % 2 ^ 64
+
+-- where symbol j of a file lies, moved by an addend: at a number, in text or in data; nowhere, where its section isn't kept
+abbrev pub own_target : List (List ℕ) → ℕ → ℕ → ℤ → Option Target
+own_target set file j addend =
+    let b = file_at set file in
+    let at = moved (st_value b j) addend in
+    if is_absolute b j then Some (target.Number at)
+    else (if lies_in_text b j then Some (target.Code (text_place set file (index_of b j)) at)
+    else (if lies_in_kept b j then Some (target.Data (piece.Section file (index_of b j)) (cast_signed w64 at))
+    else None))
+
+-- where a name goes, moved by an addend; a weak symbol may stand for nothing
+abbrev pub named_target : List (List ℕ) → List ℕ → Bool → Stand → ℤ → Option Target
+named_target set name weak (stand.Definition file number) addend = own_target set file number addend
+named_target set name weak (stand.Common size align) addend = Some (target.Data (piece.Common (common_number set name)) addend)
+named_target set name true stand.Nothing addend = Some (target.WeakNone addend)
+named_target set name false stand.Nothing addend = None
+
+-- where symbol j of a file goes, moved by an addend; None where it stands for nothing and isn't weak
+abbrev pub target_of : List (List ℕ) → ℕ → ℕ → ℤ → Option Target
+target_of set file j addend =
+    let b = file_at set file in
+    if j == 0 then Some (target.Number (moved 0 addend))
+    else (if is_toc_base b j then Some (target.TocBase file addend)
+    else (if is_local b j then own_target set file j addend
+    else named_target set (name_of b j) (is_weak b j) (stands_for set (name_of b j)) addend))
+
+-- the definition for which a name stands
+abbrev pub defined : Stand → Option (ℕ × ℕ)
+defined (stand.Definition file number) = Some (file, number)
+defined (stand.Common size align) = None
+defined stand.Nothing = None
+
+-- the definition for which symbol j of a file stands
+abbrev pub definition_of : List (List ℕ) → ℕ → ℕ → Option (ℕ × ℕ)
+definition_of set file j =
+    let b = file_at set file in
+    if j == 0 || is_toc_base b j then None
+    else (if is_local b j then (if is_absolute b j || lies_in_kept b j then Some (file, j) else None)
+    else defined (stands_for set (name_of b j)))
+
+-- symbol j of a file is an instruction's place: in text, at a multiple of 4 below the section's size
+abbrev pub is_instruction : List ℕ → ℕ → Bool
+is_instruction b j = lies_in_text b j && st_value b j % 4 == 0 && nat_lt (st_value b j) (sh_size b (index_of b j))
+
+-- why an entry's name is refused
+abbrev pub entry_fault : List (List ℕ) → List ℕ → Stand → Option Refusal
+entry_fault set entry (stand.Definition file number) = if is_instruction (file_at set file) number then None else Some (EntryNotCode entry)
+entry_fault set entry (stand.Common size align) = Some (EntryNotCode entry)
+entry_fault set entry stand.Nothing = Some (NoEntry entry)
+
+abbrev pub entry_refusal : List (List ℕ) → List ℕ → Option Refusal
+entry_refusal set entry = entry_fault set entry (stands_for set entry)
+
+-- the place of the entry's definition in text
+abbrev pub entry_at : List (List ℕ) → Stand → CodePlace
+entry_at set (stand.Definition file number) =
+    record { section = text_place set file (index_of (file_at set file) number); offset = st_value (file_at set file) number }
+entry_at set (stand.Common size align) = record { section = 0; offset = 0 }
+entry_at set stand.Nothing = record { section = 0; offset = 0 }
+
+abbrev pub entry_place : List (List ℕ) → List ℕ → CodePlace
+entry_place set entry = entry_at set (stands_for set entry)

@@ -1,0 +1,11 @@
+// What the names of the symbols of a link's files stand for (ELF64 object file format, "Symbol Table"; ELFv2 ABI, 3.4 "Symbol
+// Table"), which place a relocation record goes to, and where the program is entered. Names are compared as bytes.
+#![tactic(auto)]
+
+mod claims;
+mod names;
+mod role;
+mod table;
+mod target;
+
+pub use target::{CodePlace, Piece, Target};
