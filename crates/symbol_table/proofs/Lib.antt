@@ -1,3 +1,4 @@
 pub mod Keys
 pub mod Distinct
 pub mod Steps
+pub mod Tables

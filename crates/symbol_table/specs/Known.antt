@@ -1,6 +1,6 @@
 -- The symbols that other files see (ELF64, "Symbol Table": STB_GLOBAL and STB_WEAK), in order of file and symbol number, and their
 -- names in the order in which they are first seen.
-use Rattle.std.specs.Prelude.{ℕ, zero, suc, List, [], ◌∷◌, ◌++◌, ◌||◌, length, fold, if◌then◌else◌}
+use Rattle.std.specs.Prelude.{◌≡◌, ◌<◌, false, Some, slice_get, slice_index, ℕ, zero, suc, List, [], ◌∷◌, ◌++◌, ◌||◌, length, fold, if◌then◌else◌}
 use Rattle.elf64_records.specs.Symbols.{symbol_count, st_size, st_value}
 use Rattle.object_set.specs.Files.{file_at}
 use Rattle.object_set.specs.Symbols.{name_of, is_local, is_global, is_absolute, is_common, lies_in_kept}
@@ -35,10 +35,14 @@ known_symbol file b j = record {
   value = st_value b j;
 }
 
+-- symbol j of a file, where other files see it
+abbrev pub seen : ℕ → List ℕ → ℕ → List KnownSymbol
+seen file b j = if is_local b j then [] else known_symbol file b j ∷ []
+
 -- those among the first n symbols of a file
 abbrev pub known_in : ℕ → List ℕ → ℕ → List KnownSymbol
 known_in file b zero = []
-known_in file b (suc n) = known_in file b n ++ (if is_local b n then [] else known_symbol file b n ∷ [])
+known_in file b (suc n) = known_in file b n ++ seen file b n
 
 -- those of the first n files
 abbrev pub known_before : List (List ℕ) → ℕ → List KnownSymbol
@@ -52,3 +56,12 @@ known_symbols set = known_before set (length set)
 -- the names of symbols, in the order in which they are first seen
 abbrev pub names_of : List KnownSymbol → List (List ℕ)
 names_of symbols = fold (λ names s. with_name names s.name) [] symbols
+
+-- names keep their numbers where more come
+abbrev pub Grows : List (List ℕ) → List (List ℕ) → Type 0
+Grows old new = (k : ℕ) (name : List ℕ) → slice_get old k ≡ Some name → slice_get new k ≡ Some name
+
+-- the numbers of the names of the first n symbols of a file, but for LOCAL ones
+pub record AreNumbers (names : List (List ℕ)) (b : List ℕ) (n : ℕ) (numbers : List ℕ) : Type 0 where
+  pub count : length numbers ≡ n
+  pub each : (j : ℕ) → j < n → is_local b j ≡ false → slice_get names (slice_index numbers j) ≡ Some (name_of b j)

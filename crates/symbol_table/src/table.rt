@@ -1,12 +1,16 @@
 // What the symbols of a set of files say of each name.
-ghost use Rattle.std.specs.Prelude.{◌≡◌, List, ◌∷◌, [], ◌++◌, Some, IfOk, OnOk, length, slice_get};
-ghost use Rattle.symbol_table.specs.Known.{KnownSymbol};
+ghost use Rattle.std.specs.Prelude.{false, ◌<◌, ◌≡◌, List, ◌∷◌, [], ◌++◌, Some, IfOk, OnOk, length, slice_get};
+ghost use Rattle.elf64_records.specs.Symbols.{symbol_count};
+ghost use Rattle.object_set.specs.Files.{file_at};
+ghost use Rattle.object_set.specs.Symbols.{is_local, name_of};
+ghost use Rattle.symbol_table.specs.Known.{KnownSymbol, seen, known_in, Grows, AreNumbers};
 ghost use Rattle.symbol_table.specs.Names.{with_name};
 ghost use Rattle.symbol_table.specs.Claims.{table_of, facts_of, unclaimed};
 
 use crate::claims::Claims;
 use crate::names::Names;
-use crate::role::Known;
+use crate::role::{Known, is_local, role_of};
+use object_set::ObjectSet;
 use std::alloc::{AllocError, Global};
 use std::marker::Model;
 
@@ -65,4 +69,60 @@ impl<'a> Table<'a> {
         self.claims[number] = claims;
         Ok(number)
     }
+}
+
+/// The numbers of the names of a file's symbols, which contracts see as their list.
+#[derive(Drop)]
+pub struct Numbers {
+    items: Vec<usize>,
+}
+
+impl Model for Numbers {
+    ghost use Rattle.std.specs.Prelude.{ℕ, List};
+
+    ghost Value = { List ℕ };
+
+    ghost view = { λ n. n.items.items };
+}
+
+/// Takes in symbol `j` of a file, where other files see it, and gives the number of its name.
+fn add_symbol<'a>(table: &mut Table<'a>, set: &ObjectSet<'a>, file: u32, j: u32) -> Result<usize, AllocError>
+    requires same_length { length table.old.1 ≡ length table.old.0 }
+    requires file { file < length set.now }
+    requires within { j < symbol_count (file_at set.now file) }
+    ensures table { OnOk result ((symbols : List KnownSymbol) → table.old ≡ table_of symbols → table.new ≡ table_of (symbols ++ seen file (file_at set.now file) j)) }
+    ensures grows { OnOk result (Grows table.old.0 table.new.0) }
+    ensures number { IfOk result (λ k. is_local (file_at set.now file) j ≡ false → slice_get table.new.0 k ≡ Some (name_of (file_at set.now file) j)) }
+    ensures same_length { OnOk result (length table.new.1 ≡ length table.new.0) }
+{
+    let view = set.view(file);
+    if is_local(view, j) {
+        return Ok(0);
+    }
+    let symbol = view.symbol(j);
+    table.add(Known {
+        name: symbol.name,
+        role: role_of(set, file, j),
+        file,
+        number: j,
+        size: symbol.size,
+        value: symbol.value,
+    })
+}
+
+/// Takes in the symbols of a file, and gives the numbers of their names.
+fn add_file<'a>(alloc: Global, table: &mut Table<'a>, set: &ObjectSet<'a>, file: u32) -> Result<Numbers, AllocError>
+    requires same_length { length table.old.1 ≡ length table.old.0 }
+    requires file { file < length set.now }
+    ensures table { OnOk result ((symbols : List KnownSymbol) → table.old ≡ table_of symbols → table.new ≡ table_of (symbols ++ known_in file (file_at set.now file) (symbol_count (file_at set.now file)))) }
+    ensures grows { OnOk result (Grows table.old.0 table.new.0) }
+    ensures numbers { IfOk result (AreNumbers table.new.0 (file_at set.now file) (symbol_count (file_at set.now file))) }
+    ensures same_length { OnOk result (length table.new.1 ≡ length table.new.0) }
+{
+    let mut items = Vec::new(alloc);
+    for j in 0..set.view(file).symbol_count() {
+        let number = add_symbol(table, set, file, j)?;
+        items.push(number)?;
+    }
+    Ok(Numbers { items })
 }
