@@ -2,3 +2,4 @@ pub mod Keys
 pub mod Distinct
 pub mod Steps
 pub mod Tables
+pub mod Numbers

@@ -1,6 +1,7 @@
 -- The symbols that other files see (ELF64, "Symbol Table": STB_GLOBAL and STB_WEAK), in order of file and symbol number, and their
 -- names in the order in which they are first seen.
 use Rattle.std.specs.Prelude.{◌≡◌, ◌<◌, false, Some, slice_get, slice_index, ℕ, zero, suc, List, [], ◌∷◌, ◌++◌, ◌||◌, length, fold, if◌then◌else◌}
+use Rattle.std.specs.List.{slice_index_or}
 use Rattle.elf64_records.specs.Symbols.{symbol_count, st_size, st_value}
 use Rattle.object_set.specs.Files.{file_at}
 use Rattle.object_set.specs.Symbols.{name_of, is_local, is_global, is_absolute, is_common, lies_in_kept}
@@ -65,3 +66,8 @@ Grows old new = (k : ℕ) (name : List ℕ) → slice_get old k ≡ Some name �
 pub record AreNumbers (names : List (List ℕ)) (b : List ℕ) (n : ℕ) (numbers : List ℕ) : Type 0 where
   pub count : length numbers ≡ n
   pub each : (j : ℕ) → j < n → is_local b j ≡ false → slice_get names (slice_index numbers j) ≡ Some (name_of b j)
+
+-- the same for the first n files
+pub record AreAllNumbers (names : List (List ℕ)) (set : List (List ℕ)) (n : ℕ) (numbers : List (List ℕ)) : Type 0 where
+  pub count : length numbers ≡ n
+  pub each : (file : ℕ) → file < n → AreNumbers names (file_at set file) (symbol_count (file_at set file)) (slice_index_or numbers file [])

@@ -1,7 +1,8 @@
 // What a symbol does for its name.
-ghost use Rattle.std.specs.Prelude.{◌≡◌, ◌<◌, length};
+ghost use Rattle.std.specs.Prelude.{◌≡◌, ◌<◌, None, length};
 ghost use Rattle.elf64_records.specs.Symbols.{symbol_count};
 ghost use Rattle.object_set.specs.Files.{file_at};
+ghost use Rattle.object_set.specs.Refusals.{set_refusal};
 ghost use Rattle.object_set.specs.Symbols.{is_local};
 ghost use Rattle.object_set.specs.Sections.{is_kept_sort};
 ghost use Rattle.symbol_table.specs.Known.{role_of};
@@ -58,8 +59,9 @@ pub fn is_local(view: &ObjectView, j: u32) -> bool
 }
 
 /// What a symbol other than symbol 0 does for its name.
-#[tactic(auto, using(object_set::specs::Laws::symbol_fit), unfolding(crate::specs::Known::role_of))]
+#[tactic(auto, unfolding(crate::specs::Known::role_of))]
 pub fn role_of(set: &ObjectSet, file: u32, j: u32) -> Role
+    requires whole { set_refusal set.now ≡ None }
     requires file { file < length set.now }
     requires some { 0 < j }
     requires within { j < symbol_count (file_at set.now file) }

@@ -1,9 +1,10 @@
 // What the symbols of a set of files say of each name.
-ghost use Rattle.std.specs.Prelude.{false, ◌<◌, ◌≡◌, List, ◌∷◌, [], ◌++◌, Some, IfOk, OnOk, length, slice_get};
+ghost use Rattle.std.specs.Prelude.{false, ◌<◌, ◌≡◌, List, ◌∷◌, [], ◌++◌, Some, None, IfOk, OnOk, length, slice_get};
 ghost use Rattle.elf64_records.specs.Symbols.{symbol_count};
 ghost use Rattle.object_set.specs.Files.{file_at};
+ghost use Rattle.object_set.specs.Refusals.{set_refusal};
 ghost use Rattle.object_set.specs.Symbols.{is_local, name_of};
-ghost use Rattle.symbol_table.specs.Known.{KnownSymbol, seen, known_in, Grows, AreNumbers};
+ghost use Rattle.symbol_table.specs.Known.{KnownSymbol, seen, known_in, Grows, AreNumbers, AreAllNumbers, known_symbols, names_of};
 ghost use Rattle.symbol_table.specs.Names.{with_name};
 ghost use Rattle.symbol_table.specs.Claims.{table_of, facts_of, unclaimed};
 
@@ -87,6 +88,7 @@ impl Model for Numbers {
 
 /// Takes in symbol `j` of a file, where other files see it, and gives the number of its name.
 fn add_symbol<'a>(table: &mut Table<'a>, set: &ObjectSet<'a>, file: u32, j: u32) -> Result<usize, AllocError>
+    requires whole { set_refusal set.now ≡ None }
     requires same_length { length table.old.1 ≡ length table.old.0 }
     requires file { file < length set.now }
     requires within { j < symbol_count (file_at set.now file) }
@@ -112,6 +114,7 @@ fn add_symbol<'a>(table: &mut Table<'a>, set: &ObjectSet<'a>, file: u32, j: u32)
 
 /// Takes in the symbols of a file, and gives the numbers of their names.
 fn add_file<'a>(alloc: Global, table: &mut Table<'a>, set: &ObjectSet<'a>, file: u32) -> Result<Numbers, AllocError>
+    requires whole { set_refusal set.now ≡ None }
     requires same_length { length table.old.1 ≡ length table.old.0 }
     requires file { file < length set.now }
     ensures table { OnOk result ((symbols : List KnownSymbol) → table.old ≡ table_of symbols → table.new ≡ table_of (symbols ++ known_in file (file_at set.now file) (symbol_count (file_at set.now file)))) }
@@ -125,4 +128,18 @@ fn add_file<'a>(alloc: Global, table: &mut Table<'a>, set: &ObjectSet<'a>, file:
         items.push(number)?;
     }
     Ok(Numbers { items })
+}
+
+/// What the symbols of all files say of their names, and for each file the numbers of these.
+pub fn tabulate<'a>(alloc: Global, set: &ObjectSet<'a>) -> Result<(Table<'a>, Vec<Numbers>), AllocError>
+    ensures table { IfOk result (λ r. r.0 ≡ table_of (known_symbols set.now)) }
+    ensures numbers { IfOk result (λ r. AreAllNumbers (names_of (known_symbols set.now)) set.now (length set.now) r.1.items) }
+{
+    let mut table = Table::new(alloc);
+    let mut numbers = Vec::new(alloc);
+    for file in 0..set.file_count() {
+        let row = add_file(alloc, &mut table, set, file)?;
+        numbers.push(row)?;
+    }
+    Ok((table, numbers))
 }
