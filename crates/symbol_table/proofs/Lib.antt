@@ -3,3 +3,4 @@ pub mod Distinct
 pub mod Steps
 pub mod Tables
 pub mod Numbers
+pub mod Texts

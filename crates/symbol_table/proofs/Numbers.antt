@@ -9,12 +9,12 @@ use Rattle.object_set.specs.Symbols.{is_local, name_of}
 use Rattle.symbol_table.specs.Known.{KnownSymbol, known_in, seen, Grows, AreNumbers, AreAllNumbers}
 use Rattle.symbol_table.specs.Claims.{table_of}
 
-get_or_left : (xs ys : List ℕ) (k d : ℕ) → k < length xs → get_or (xs ++ ys) k d ≡ get_or xs k d
+pub get_or_left : (xs ys : List ℕ) (k d : ℕ) → k < length xs → get_or (xs ++ ys) k d ≡ get_or xs k d
 get_or_left [] ys k d within = absurd (omega arith)
 get_or_left (x ∷ xs) ys zero d within = refl
 get_or_left (x ∷ xs) ys (suc k) d within = get_or_left xs ys k d (omega arith)
 
-get_or_last : (xs : List ℕ) (x d : ℕ) → get_or (xs ++ x ∷ []) (length xs) d ≡ x
+pub get_or_last : (xs : List ℕ) (x d : ℕ) → get_or (xs ++ x ∷ []) (length xs) d ≡ x
 get_or_last [] x d = refl
 get_or_last (y ∷ xs) x d = get_or_last xs x d
 
@@ -44,12 +44,12 @@ numbers_more names names' b n row k are grows this = record {
 pub known_step : (symbols : List KnownSymbol) (file : ℕ) (b : List ℕ) (j : ℕ) → (symbols ++ known_in file b j) ++ seen file b j ≡ symbols ++ known_in file b (j + 1)
 known_step symbols file b j = append_assoc symbols (known_in file b j) (seen file b j) ∙ ap (λ (n : ℕ). symbols ++ known_in file b n) (sym (add-one j))
 
-row_left : (xs : List (List ℕ)) (row : List ℕ) (k : ℕ) → k < length xs → slice_index_or (xs ++ row ∷ []) k [] ≡ slice_index_or xs k []
+pub row_left : (xs : List (List ℕ)) (row : List ℕ) (k : ℕ) → k < length xs → slice_index_or (xs ++ row ∷ []) k [] ≡ slice_index_or xs k []
 row_left [] row k within = absurd (omega arith)
 row_left (x ∷ xs) row zero within = refl
 row_left (x ∷ xs) row (suc k) within = row_left xs row k (omega arith)
 
-row_last : (xs : List (List ℕ)) (row : List ℕ) → slice_index_or (xs ++ row ∷ []) (length xs) [] ≡ row
+pub row_last : (xs : List (List ℕ)) (row : List ℕ) → slice_index_or (xs ++ row ∷ []) (length xs) [] ≡ row
 row_last [] row = refl
 row_last (y ∷ xs) row = row_last xs row
 
@@ -72,3 +72,8 @@ all_numbers_more names names' set n rows row are grows this = record {
             subst Q same (subst P (sym at) this))
       ];
 }
+
+pub read_at : {X : Type 0} (xs : List X) (k : ℕ) (x d : X) → slice_get xs k ≡ Some x → slice_index_or xs k d ≡ x
+read_at [] k x d found = cc
+read_at (y ∷ xs) zero x d found = cc
+read_at (y ∷ xs) (suc k) x d found = read_at xs k x d found

@@ -110,15 +110,15 @@ twice name None second = None
 twice name (Some place) None = None
 twice name (Some place) (Some second) = Some (Duplicate name place.0 second)
 
--- name i of symbols, in first-seen order
-abbrev pub name_at : List KnownSymbol → ℕ → List ℕ
-name_at symbols i = slice_index_or (names_of symbols) i []
+-- the refusal of name i of a table
+unfoldable pub duplicate_at : List (List ℕ) × List Claims → ℕ → Option Refusal
+duplicate_at table i =
+    let claims = slice_index_or table.1 i no_claims in
+    twice (slice_index_or table.0 i []) claims.global claims.second
 
-unfoldable pub duplicate_at : List KnownSymbol → ℕ → Option Refusal
-duplicate_at symbols i =
-    let claims = claims_of symbols (name_at symbols i) in
-    twice (name_at symbols i) claims.global claims.second
+-- that of the first name, in first-seen order, with two GLOBAL definitions
+abbrev pub duplicates : List (List ℕ) × List Claims → Option Refusal
+duplicates table = first_from (duplicate_at table) 0 (length table.0)
 
--- the first name, in first-seen order, with two GLOBAL definitions
 abbrev pub duplicate_refusal : List (List ℕ) → Option Refusal
-duplicate_refusal set = first_from (duplicate_at (known_symbols set)) 0 (length (names_of (known_symbols set)))
+duplicate_refusal set = duplicates (table_of (known_symbols set))

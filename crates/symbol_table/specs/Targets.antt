@@ -16,7 +16,8 @@ use Rattle.symbol_table.specs.declared.target.Piece.TheVariants as piece
 use Rattle.symbol_table.specs.declared.target.Target.{Target}
 use Rattle.symbol_table.specs.declared.target.Target.TheVariants as target
 use Rattle.symbol_table.specs.Known.{known_symbols, names_of}
-use Rattle.symbol_table.specs.Claims.{stands_for}
+use Rattle.symbol_table.specs.Claims.{stands_for, stand_of, table_of}
+use Rattle.symbol_table.specs.declared.claims.Claims.{Claims}
 use Rattle.symbol_table.specs.Text.{text_place}
 use Rattle.std.specs.Int.{cast_signed, cast_unsigned}
 use Rattle.std.specs.Int.{w64}
@@ -27,17 +28,21 @@ shared (stand.Definition file number) = None
 shared (stand.Common size align) = Some (size, align)
 shared stand.Nothing = None
 
--- the commons of the first n names, in first-seen order
-abbrev pub commons_before : List (List ℕ) → ℕ → List (ℕ × ℕ)
-commons_before set n = filter_map (λ name. shared (stands_for set name)) (take n (names_of (known_symbols set)))
+-- the commons of the first n names of which so much is said
+abbrev pub shared_before : List Claims → ℕ → List (ℕ × ℕ)
+shared_before claims n = filter_map (λ c. shared (stand_of c)) (take n claims)
+
+-- what is said of each name of a set, in first-seen order
+abbrev pub all_claims : List (List ℕ) → List Claims
+all_claims set = (table_of (known_symbols set)).1
 
 -- the size and alignment of each common, in first-seen order of the names
 abbrev pub commons : List (List ℕ) → List (ℕ × ℕ)
-commons set = commons_before set (length (names_of (known_symbols set)))
+commons set = shared_before (all_claims set) (length (all_claims set))
 
 -- how many names before this one stand for a common: the number of its common
 abbrev pub common_number : List (List ℕ) → List ℕ → ℕ
-common_number set name = length (commons_before set (position_or_len (bytes_eq name) (names_of (known_symbols set))))
+common_number set name = length (shared_before (all_claims set) (position_or_len (bytes_eq name) (names_of (known_symbols set))))
 
 -- a sum modulo 2^64
 abbrev pub moved : ℕ → ℤ → ℕ

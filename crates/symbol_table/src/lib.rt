@@ -7,5 +7,6 @@ mod names;
 mod role;
 mod table;
 mod target;
+mod text;
 
 pub use target::{CodePlace, Piece, Target};

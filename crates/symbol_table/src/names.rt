@@ -1,5 +1,5 @@
 // Names in the order in which they are first seen.
-ghost use Rattle.std.specs.Prelude.{◌≡◌, [], Some, IfOk, OnOk, MatchOption, false, slice_get};
+ghost use Rattle.std.specs.Prelude.{◌≡◌, ◌<◌, length, [], Some, IfOk, OnOk, MatchOption, false, slice_get};
 ghost use Rattle.std.specs.List.{list_any};
 ghost use Rattle.std.specs.Str.{bytes_eq};
 ghost use Rattle.symbol_table.specs.Names.{with_name};
@@ -51,5 +51,16 @@ impl<'a> Names<'a> {
         ensures { MatchOption result (list_any (bytes_eq name.now) self.now ≡ false) (λ k. slice_get self.now k ≡ Some name.now) }
     {
         self.set.get_index_of(name)
+    }
+
+    /// A name, by its number.
+    pub fn get(&self, number: usize) -> &'a [u8]
+        requires { number < length self.now }
+        ensures { slice_get self.now number ≡ Some result.now }
+    {
+        match self.set.get_index(number) {
+            Some(name) => *name,
+            None => &[],
+        }
     }
 }

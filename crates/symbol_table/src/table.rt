@@ -2,16 +2,17 @@
 ghost use Rattle.std.specs.Prelude.{false, ◌<◌, ◌≡◌, List, ◌∷◌, [], ◌++◌, Some, None, IfOk, OnOk, length, slice_get};
 ghost use Rattle.elf64_records.specs.Symbols.{symbol_count};
 ghost use Rattle.object_set.specs.Files.{file_at};
-ghost use Rattle.object_set.specs.Refusals.{set_refusal};
+ghost use Rattle.object_set.specs.Refusals.{set_refusal, Answers};
 ghost use Rattle.object_set.specs.Symbols.{is_local, name_of};
 ghost use Rattle.symbol_table.specs.Known.{KnownSymbol, seen, known_in, Grows, AreNumbers, AreAllNumbers, known_symbols, names_of};
 ghost use Rattle.symbol_table.specs.Names.{with_name};
-ghost use Rattle.symbol_table.specs.Claims.{table_of, facts_of, unclaimed};
+ghost use Rattle.symbol_table.specs.Claims.{table_of, claims_of, facts_of, unclaimed, duplicate_at, duplicates};
 
 use crate::claims::Claims;
 use crate::names::Names;
 use crate::role::{Known, is_local, role_of};
-use object_set::ObjectSet;
+use object_set::{ObjectSet, Refusal};
+use ppc_bytes::Bytes;
 use std::alloc::{AllocError, Global};
 use std::marker::Model;
 
@@ -40,6 +41,54 @@ impl<'a> Table<'a> {
             names: Names::new(alloc),
             claims: Vec::new(alloc),
         }
+    }
+
+    /// What is said of a name.
+    pub fn claims(&self, name: &[u8]) -> Claims
+        requires { length self.now.1 ≡ length self.now.0 }
+        ensures { (symbols : List KnownSymbol) → self.now ≡ table_of symbols → result ≡ claims_of symbols name.now }
+    {
+        match self.names.find(name) {
+            Some(number) => self.claims[number],
+            None => Claims::none(),
+        }
+    }
+
+    /// What is said of each name.
+    pub fn into_claims(self) -> Vec<Claims>
+        ensures { result.items ≡ self.entry.1 }
+    {
+        let Table { names: _, claims } = self;
+        claims
+    }
+
+    /// Refuses name `i` where it has two GLOBAL definitions.
+    #[tactic(auto, using(crate::proofs::Numbers::read_at), unfolding(crate::specs::Claims::duplicate_at))]
+    fn check_name(&self, alloc: Global, i: usize) -> Result<(), Refusal>
+        requires same_length { length self.now.1 ≡ length self.now.0 }
+        requires within { i < length self.now.0 }
+        ensures { Answers result (duplicate_at self.now i) }
+    {
+        let claims = self.claims[i];
+        match (claims.global, claims.second) {
+            (Some((first, _)), Some(second)) => {
+                let name = Bytes::of(Vec::from_slice(alloc, self.names.get(i))?);
+                Err(Refusal::Duplicate(name, first, second))
+            }
+            _ => Ok(()),
+        }
+    }
+
+    /// Refuses the first name that has two GLOBAL definitions.
+    #[tactic(auto, using(elf64_records::specs::Laws::walk_step))]
+    pub fn check_names(&self, alloc: Global) -> Result<(), Refusal>
+        requires { length self.now.1 ≡ length self.now.0 }
+        ensures { Answers result (duplicates self.now) }
+    {
+        for i in 0..self.claims.len() {
+            self.check_name(alloc, i)?;
+        }
+        Ok(())
     }
 
     /// The number of a name, of which nothing is said where it is new.
