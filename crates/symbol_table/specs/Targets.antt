@@ -1,11 +1,11 @@
 -- Where records and the entry go (ELFv2 ABI, 3.4 "Symbol Table"; ELF64, "Relocation": S + A).
-use Rattle.std.specs.Prelude.{ℕ, ℤ, ◌+◌, ◌%◌, ◌^◌, Bool, true, false, List, [], ◌||◌, ◌&&◌, ◌==◌, Option, Some, None, length, filter_map, take, nat_lt, if◌then◌else◌}
+use Rattle.std.specs.Prelude.{◌≡◌, ◌∷◌, slice_index, ℕ, ℤ, ◌+◌, ◌%◌, ◌^◌, Bool, true, false, List, [], ◌||◌, ◌&&◌, ◌==◌, ◌<◌, Option, Some, None, length, filter_map, take, nat_lt, if◌then◌else◌}
 use Rattle.std.specs.List.{position_or_len}
 use Rattle.std.specs.Str.{bytes_eq}
 use Rattle.elf64_records.specs.Sections.{sh_size}
-use Rattle.elf64_records.specs.Symbols.{st_value}
+use Rattle.elf64_records.specs.Symbols.{st_value, symbol_count}
 use Rattle.object_set.specs.Files.{file_at}
-use Rattle.object_set.specs.Symbols.{name_of, is_local, is_weak, is_absolute, is_toc_base, index_of, lies_in_kept, lies_in_text}
+use Rattle.object_set.specs.Symbols.{name_of, is_local, is_weak, has_section, is_absolute, is_toc_base, index_of, lies_in_kept, lies_in_text}
 use Rattle.object_set.specs.declared.refusal.Refusal.{Refusal}
 use Rattle.object_set.specs.declared.refusal.Refusal.TheVariants.{NoEntry, EntryNotCode}
 use Rattle.symbol_table.specs.declared.claims.Stand.{Stand}
@@ -16,7 +16,8 @@ use Rattle.symbol_table.specs.declared.target.Piece.TheVariants as piece
 use Rattle.symbol_table.specs.declared.target.Target.{Target}
 use Rattle.symbol_table.specs.declared.target.Target.TheVariants as target
 use Rattle.symbol_table.specs.Known.{known_symbols, names_of}
-use Rattle.symbol_table.specs.Claims.{stands_for, stand_of, table_of}
+use Rattle.symbol_table.specs.Claims.{stands_for, stand_of, table_of, duplicate_refusal}
+use Rattle.elf64_records.specs.First.{◌orelse◌}
 use Rattle.symbol_table.specs.declared.claims.Claims.{Claims}
 use Rattle.symbol_table.specs.Text.{text_place}
 use Rattle.std.specs.Int.{cast_signed, cast_unsigned}
@@ -92,6 +93,22 @@ definition_of set file j =
 abbrev pub is_instruction : List ℕ → ℕ → Bool
 is_instruction b j = lies_in_text b j && st_value b j % 4 == 0 && nat_lt (st_value b j) (sh_size b (index_of b j))
 
+-- the section of symbol j, where its index is a section's number
+abbrev pub section_index : List ℕ → ℕ → Option ℕ
+section_index b j = if has_section b j then Some (index_of b j) else None
+
+-- the place of symbol j of a file, where it is an instruction
+abbrev pub instruction_at : List (List ℕ) → ℕ → ℕ → Option CodePlace
+instruction_at set file j =
+    let b = file_at set file in
+    if is_instruction b j then Some (record { section = text_place set file (index_of b j); offset = st_value b j }) else None
+
+-- a symbol other than symbol 0 of one of the files
+pub record IsPlaced (set : List (List ℕ)) (file number : ℕ) : Type 0 where
+  pub file_in : file < length set
+  pub some : 0 < number
+  pub within : number < symbol_count (file_at set file)
+
 -- why an entry's name is refused
 abbrev pub entry_fault : List (List ℕ) → List ℕ → Stand → Option Refusal
 entry_fault set entry (stand.Definition file number) = if is_instruction (file_at set file) number then None else Some (EntryNotCode entry)
@@ -110,3 +127,17 @@ entry_at set stand.Nothing = record { section = 0; offset = 0 }
 
 abbrev pub entry_place : List (List ℕ) → List ℕ → CodePlace
 entry_place set entry = entry_at set (stands_for set entry)
+
+-- why files with an entry are refused: a name that is defined twice, and then the entry
+abbrev pub resolve_refusal : List (List ℕ) → List ℕ → Option Refusal
+resolve_refusal set entry = duplicate_refusal set orelse entry_refusal set entry
+
+-- how many commons stand before each of the first n names
+pub record AreShares (claims : List Claims) (n : ℕ) (shares : List ℕ) : Type 0 where
+  pub count : length shares ≡ n
+  pub each : (k : ℕ) → k < n → slice_index shares k ≡ length (shared_before claims k)
+
+-- the common for which a name stands, of which so much is said
+abbrev pub common_at : Option (ℕ × ℕ) → List (ℕ × ℕ)
+common_at None = []
+common_at (Some common) = common ∷ []

@@ -3,6 +3,8 @@
 #![tactic(auto)]
 
 mod claims;
+mod commons;
+mod entry;
 mod names;
 mod role;
 mod table;

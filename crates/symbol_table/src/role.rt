@@ -14,11 +14,11 @@ const STB_LOCAL: u8 = 0;
 
 const STB_GLOBAL: u8 = 1;
 
-const SHN_LORESERVE: u16 = 0xFF00;
+pub const SHN_LORESERVE: u16 = 0xFF00;
 
-const SHN_ABS: u16 = 0xFFF1;
+pub const SHN_ABS: u16 = 0xFFF1;
 
-const SHN_COMMON: u16 = 0xFFF2;
+pub const SHN_COMMON: u16 = 0xFFF2;
 
 /// What a GLOBAL or WEAK symbol does for its name.
 #[derive(Clone, Copy)]

@@ -182,6 +182,7 @@ fn add_file<'a>(alloc: Global, table: &mut Table<'a>, set: &ObjectSet<'a>, file:
 /// What the symbols of all files say of their names, and for each file the numbers of these.
 pub fn tabulate<'a>(alloc: Global, set: &ObjectSet<'a>) -> Result<(Table<'a>, Vec<Numbers>), AllocError>
     ensures table { IfOk result (λ r. r.0 ≡ table_of (known_symbols set.now)) }
+    ensures whole { IfOk result (λ r. set_refusal set.now ≡ None) }
     ensures numbers { IfOk result (λ r. AreAllNumbers (names_of (known_symbols set.now)) set.now (length set.now) r.1.items) }
 {
     let mut table = Table::new(alloc);

@@ -1,18 +1,25 @@
 // The text sections of a set of files, numbered in order of file and section.
-ghost use Rattle.std.specs.Prelude.{◌≡◌, ◌<◌, ◌++◌, IfOk, OnOk, length, slice_index};
+ghost use Rattle.std.specs.Prelude.{◌≡◌, ◌≤◌, ◌<◌, ◌++◌, IfOk, IfSome, OnOk, None, length, slice_index};
 ghost use Rattle.elf64_records.specs.FileHeader.{e_shnum};
 ghost use Rattle.object_set.specs.Files.{file_at};
 ghost use Rattle.object_set.specs.Sections.{is_text};
-ghost use Rattle.symbol_table.specs.Text.{text_at, text_in, text_before, text_sections, ArePlaces, AreAllPlaces};
+ghost use Rattle.object_set.specs.Refusals.{set_refusal};
+ghost use Rattle.symbol_table.specs.Targets.{instruction_at, section_index, IsPlaced};
+ghost use Rattle.symbol_table.specs.Text.{text_place, text_at, text_in, text_before, text_sections, ArePlaces, AreAllPlaces};
 
+use crate::role::SHN_LORESERVE;
+use crate::target::CodePlace;
 use object_set::{ObjectSet, Sort};
 use std::alloc::{AllocError, Global};
 use std::marker::Model;
 
+/// How many text sections can be numbered. 4096 files have far fewer.
+const TEXT_LIMIT: usize = 0xFFFF_FFFF;
+
 /// How many text sections stand before each section of a file. Contracts see the list of these.
 #[derive(Drop)]
 pub struct Places {
-    items: Vec<usize>,
+    items: Vec<u32>,
 }
 
 impl Model for Places {
@@ -25,7 +32,7 @@ impl Model for Places {
 
 impl Places {
     /// How many text sections stand before a section.
-    pub fn before(&self, section: u32) -> usize
+    pub fn before(&self, section: u32) -> u32
         requires { section < length self.now }
         ensures { result ≡ slice_index self.now section }
     {
@@ -66,7 +73,10 @@ fn number_file(alloc: Global, texts: &mut Vec<(u32, u32)>, set: &ObjectSet, file
 {
     let mut items = Vec::new(alloc);
     for section in 0..set.view(file).section_count() {
-        items.push(texts.len())?;
+        if texts.len() > TEXT_LIMIT {
+            return Err(AllocError);
+        }
+        items.push(texts.len() as u32)?;
         take_section(texts, set, file, section)?;
     }
     Ok(Places { items })
@@ -75,6 +85,7 @@ fn number_file(alloc: Global, texts: &mut Vec<(u32, u32)>, set: &ObjectSet, file
 /// The text sections of all files, and for each file how many stand before each of its sections.
 pub fn number_sections(alloc: Global, set: &ObjectSet) -> Result<(Vec<(u32, u32)>, Vec<Places>), AllocError>
     ensures texts { IfOk result (λ r. r.0.items ≡ text_sections set.now) }
+    ensures few { IfOk result (λ r. length r.0.items ≤ 0xFFFFFFFF) }
     ensures places { IfOk result (λ r. AreAllPlaces set.now (length set.now) r.1.items) }
 {
     let mut texts = Vec::new(alloc);
@@ -83,5 +94,51 @@ pub fn number_sections(alloc: Global, set: &ObjectSet) -> Result<(Vec<(u32, u32)
         let row = number_file(alloc, &mut texts, set, file)?;
         places.push(row)?;
     }
+    if texts.len() > TEXT_LIMIT {
+        return Err(AllocError);
+    }
     Ok((texts, places))
+}
+
+/// How many text sections stand before a section of a file.
+pub fn text_place(set: &ObjectSet, places: &[Places], file: u32, section: u32) -> u32
+    requires places { AreAllPlaces set.now (length set.now) places.now }
+    requires file { file < length set.now }
+    requires section { section < e_shnum (file_at set.now file) }
+    ensures { result ≡ text_place set.now file section }
+{
+    places[file as usize].before(section)
+}
+
+/// The section in which a symbol lies, if it lies in one.
+pub fn section_of(set: &ObjectSet, file: u32, j: u32) -> Option<u32>
+    requires whole { set_refusal set.now ≡ None }
+    requires placed { IsPlaced set.now file j }
+    ensures section { result ≡ section_index (file_at set.now file) j }
+    ensures within { IfSome result (λ i. i < e_shnum (file_at set.now file)) }
+{
+    let symbol = set.view(file).symbol(j);
+    if symbol.shndx < SHN_LORESERVE {
+        Some(u32::from(symbol.shndx))
+    } else {
+        None
+    }
+}
+
+/// The place of a symbol that is an instruction: in text, at a multiple of 4 below the section's size.
+pub fn instruction(set: &ObjectSet, places: &[Places], file: u32, j: u32) -> Option<CodePlace>
+    requires whole { set_refusal set.now ≡ None }
+    requires places { AreAllPlaces set.now (length set.now) places.now }
+    requires placed { IsPlaced set.now file j }
+    ensures { result ≡ instruction_at set.now file j }
+{
+    let section = section_of(set, file, j)?;
+    let offset = set.view(file).symbol(j).value;
+    let size = set.view(file).section(section).size;
+    if is_text(set, file, section) && offset % 4 == 0 && offset < size {
+        let section = text_place(set, places, file, section);
+        Some(CodePlace { section, offset })
+    } else {
+        None
+    }
 }

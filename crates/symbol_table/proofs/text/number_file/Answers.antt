@@ -10,8 +10,8 @@ loop-section-preserved c =
     let file = c.args.file in
     let i = c.loop-section.section in
     let before = c.loop-section.invariant in
-    let count : c.len.result ≡ length c.loop-section.texts.items = omega arith in
-    let more = places_more set file i c.loop-section.items.items c.len.result before.places (count ∙ texts_length set file i c.loop-section.texts.items before.texts) in
+    let count : c.len-in-loop-section.result ≡ length c.loop-section.texts.items = omega arith in
+    let more = places_more set file i c.loop-section.items.items c.len-in-loop-section.result before.places (count ∙ texts_length set file i c.loop-section.texts.items before.texts) in
     let P : List ℕ → Type 0 = λ row. ArePlaces set file (i + 1) row in
     record {
       texts = c.in_ok-take_section.ensures ∙ ap (λ (t : List (ℕ × ℕ)). t ++ text_at file (file_at set file) i) before.texts ∙ texts_step set file i;
