@@ -5,3 +5,4 @@ pub mod Tables
 pub mod Numbers
 pub mod Texts
 pub mod Placed
+pub mod Shares

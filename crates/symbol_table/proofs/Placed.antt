@@ -35,19 +35,19 @@ seen_case set file (suc n) b false is same within below (suc k) s found = cc
 
 in_placed : (set : List (List ℕ)) (file n : ℕ) → file < length set → n ≤ symbol_count (file_at set file) → AllPlaced set (known_in file (file_at set file) n)
 in_placed set file zero within below k s found = cc
-in_placed set file (suc n) within below =
+in_placed set file (suc n) within below k s found =
     append_placed set (known_in file (file_at set file) n) (seen file (file_at set file) n) (in_placed set file n within (omega arith))
-    (seen_case set file n (file_at set file) (is_local (file_at set file) n) refl refl within (omega arith))
+    (seen_case set file n (file_at set file) (is_local (file_at set file) n) refl refl within (omega arith)) k s found
 
 before_placed : (set : List (List ℕ)) (n : ℕ) → n ≤ length set → AllPlaced set (known_before set n)
 before_placed set zero below k s found = cc
-before_placed set (suc n) below =
+before_placed set (suc n) below k s found =
     append_placed set (known_before set n) (known_in n (file_at set n) (symbol_count (file_at set n))) (before_placed set n (omega arith))
-    (in_placed set n (symbol_count (file_at set n)) (omega arith) (omega arith))
+    (in_placed set n (symbol_count (file_at set n)) (omega arith) (omega arith)) k s found
 
 filter_case : (set : List (List ℕ)) (p : KnownSymbol → Bool) (x : KnownSymbol) (xs : List KnownSymbol) (b : Bool) → IsPlaced set x.file x.number → AllPlaced set (filter p xs) →
     AllPlaced set (if b then x ∷ filter p xs else filter p xs)
-filter_case set p x xs false first rest = rest
+filter_case set p x xs false first rest k s found = rest k s found
 filter_case set p x xs true first rest zero s found =
     let this : x ≡ s = cc in
     subst (λ (t : KnownSymbol). IsPlaced set t.file t.number) this first
@@ -55,7 +55,7 @@ filter_case set p x xs true first rest (suc k) s found = rest k s found
 
 filter_placed : (set : List (List ℕ)) (p : KnownSymbol → Bool) (xs : List KnownSymbol) → AllPlaced set xs → AllPlaced set (filter p xs)
 filter_placed set p [] all k s found = cc
-filter_placed set p (x ∷ xs) all = filter_case set p x xs (p x) (all 0 x refl) (filter_placed set p xs (λ k s found. all (suc k) s found))
+filter_placed set p (x ∷ xs) all k s found = filter_case set p x xs (p x) (all 0 x refl) (filter_placed set p xs (λ i t f. all (suc i) t f)) k s found
 
 first_placed : (set : List (List ℕ)) (xs : List KnownSymbol) (o : Option KnownSymbol) (p : ℕ × ℕ) → AllPlaced set xs → slice_get xs 0 ≡ o → option_map place_of o ≡ Some p → IsPlaced set p.0 p.1
 first_placed set xs None p all read is = cc

@@ -51,3 +51,13 @@ all_places_more set n rows row are this = record {
             subst Q same (subst P (sym at) this))
       ];
 }
+
+row_read : (rows : List (List ℕ)) (k : ℕ) (x : List ℕ) → k < length rows → x ≡ get_or rows k x → slice_index_or rows k [] ≡ x
+row_read [] k x within is = absurd (omega arith)
+row_read (r ∷ rows) zero x within is = sym is
+row_read (r ∷ rows) (suc k) x within is = row_read rows k x (omega arith) is
+
+pub place_row : (set : List (List ℕ)) (n : ℕ) (rows : List (List ℕ)) (file : ℕ) (x : List ℕ) → AreAllPlaces set n rows → file < n → x ≡ get_or rows file x → ArePlaces set file (e_shnum (file_at set file)) x
+place_row set n rows file x are within is =
+    let P : List ℕ → Type 0 = λ r. ArePlaces set file (e_shnum (file_at set file)) r in
+    subst P (row_read rows file x (omega (arith, are.count)) is) (are.each file within)

@@ -1,10 +1,11 @@
 -- Where records and the entry go (ELFv2 ABI, 3.4 "Symbol Table"; ELF64, "Relocation": S + A).
-use Rattle.std.specs.Prelude.{◌≡◌, ◌∷◌, slice_index, ℕ, ℤ, ◌+◌, ◌%◌, ◌^◌, Bool, true, false, List, [], ◌||◌, ◌&&◌, ◌==◌, ◌<◌, Option, Some, None, length, filter_map, take, nat_lt, if◌then◌else◌}
+use Rattle.std.specs.Prelude.{◌≡◌, ◌∷◌, slice_index, ℕ, ℤ, ◌+◌, ◌%◌, ◌^◌, Bool, true, false, List, [], ◌||◌, ◌&&◌, ◌==◌, ◌<◌, Option, Some, None, length, filter_map, take, is_some, unwrap_or, nat_lt, if◌then◌else◌}
 use Rattle.std.specs.List.{position_or_len}
 use Rattle.std.specs.Str.{bytes_eq}
 use Rattle.elf64_records.specs.Sections.{sh_size}
 use Rattle.elf64_records.specs.Symbols.{st_value, symbol_count}
 use Rattle.object_set.specs.Files.{file_at}
+use Rattle.object_set.specs.Sections.{is_text}
 use Rattle.object_set.specs.Symbols.{name_of, is_local, is_weak, has_section, is_absolute, is_toc_base, index_of, lies_in_kept, lies_in_text}
 use Rattle.object_set.specs.declared.refusal.Refusal.{Refusal}
 use Rattle.object_set.specs.declared.refusal.Refusal.TheVariants.{NoEntry, EntryNotCode}
@@ -89,19 +90,23 @@ definition_of set file j =
     else (if is_local b j then (if is_absolute b j || lies_in_kept b j then Some (file, j) else None)
     else defined (stands_for set (name_of b j)))
 
--- symbol j of a file is an instruction's place: in text, at a multiple of 4 below the section's size
-abbrev pub is_instruction : List ℕ → ℕ → Bool
-is_instruction b j = lies_in_text b j && st_value b j % 4 == 0 && nat_lt (st_value b j) (sh_size b (index_of b j))
-
 -- the section of symbol j, where its index is a section's number
 abbrev pub section_index : List ℕ → ℕ → Option ℕ
 section_index b j = if has_section b j then Some (index_of b j) else None
 
+-- an instruction stands at an offset of section i of a file: in text, at a multiple of 4 below the section's size
+abbrev pub is_instruction : List ℕ → ℕ → ℕ → Bool
+is_instruction b i offset = is_text b i && offset % 4 == 0 && nat_lt offset (sh_size b i)
+
+-- its place, where it stands there
+abbrev pub instruction_in : List (List ℕ) → ℕ → ℕ → Option ℕ → Option CodePlace
+instruction_in set file offset None = None
+instruction_in set file offset (Some i) =
+    if is_instruction (file_at set file) i offset then Some (record { section = text_place set file i; offset = offset }) else None
+
 -- the place of symbol j of a file, where it is an instruction
 abbrev pub instruction_at : List (List ℕ) → ℕ → ℕ → Option CodePlace
-instruction_at set file j =
-    let b = file_at set file in
-    if is_instruction b j then Some (record { section = text_place set file (index_of b j); offset = st_value b j }) else None
+instruction_at set file j = instruction_in set file (st_value (file_at set file) j) (section_index (file_at set file) j)
 
 -- a symbol other than symbol 0 of one of the files
 pub record IsPlaced (set : List (List ℕ)) (file number : ℕ) : Type 0 where
@@ -111,7 +116,7 @@ pub record IsPlaced (set : List (List ℕ)) (file number : ℕ) : Type 0 where
 
 -- why an entry's name is refused
 abbrev pub entry_fault : List (List ℕ) → List ℕ → Stand → Option Refusal
-entry_fault set entry (stand.Definition file number) = if is_instruction (file_at set file) number then None else Some (EntryNotCode entry)
+entry_fault set entry (stand.Definition file number) = if is_some (instruction_at set file number) then None else Some (EntryNotCode entry)
 entry_fault set entry (stand.Common size align) = Some (EntryNotCode entry)
 entry_fault set entry stand.Nothing = Some (NoEntry entry)
 
@@ -120,8 +125,7 @@ entry_refusal set entry = entry_fault set entry (stands_for set entry)
 
 -- the place of the entry's definition in text
 abbrev pub entry_at : List (List ℕ) → Stand → CodePlace
-entry_at set (stand.Definition file number) =
-    record { section = text_place set file (index_of (file_at set file) number); offset = st_value (file_at set file) number }
+entry_at set (stand.Definition file number) = unwrap_or (instruction_at set file number) (record { section = 0; offset = 0 })
 entry_at set (stand.Common size align) = record { section = 0; offset = 0 }
 entry_at set stand.Nothing = record { section = 0; offset = 0 }
 

@@ -6,9 +6,11 @@ mod claims;
 mod commons;
 mod entry;
 mod names;
+mod resolved;
 mod role;
 mod table;
 mod target;
 mod text;
 
+pub use resolved::{Resolved, resolve};
 pub use target::{CodePlace, Piece, Target};

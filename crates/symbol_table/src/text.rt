@@ -4,7 +4,7 @@ ghost use Rattle.elf64_records.specs.FileHeader.{e_shnum};
 ghost use Rattle.object_set.specs.Files.{file_at};
 ghost use Rattle.object_set.specs.Sections.{is_text};
 ghost use Rattle.object_set.specs.Refusals.{set_refusal};
-ghost use Rattle.symbol_table.specs.Targets.{instruction_at, section_index, IsPlaced};
+ghost use Rattle.symbol_table.specs.Targets.{instruction_at, is_instruction, section_index, IsPlaced};
 ghost use Rattle.symbol_table.specs.Text.{text_place, text_at, text_in, text_before, text_sections, ArePlaces, AreAllPlaces};
 
 use crate::role::SHN_LORESERVE;
@@ -125,20 +125,32 @@ pub fn section_of(set: &ObjectSet, file: u32, j: u32) -> Option<u32>
     }
 }
 
-/// The place of a symbol that is an instruction: in text, at a multiple of 4 below the section's size.
+/// Whether an instruction stands at an offset of a section: in text, at a multiple of 4 below the section's size.
+fn is_instruction(set: &ObjectSet, file: u32, section: u32, offset: u64) -> bool
+    requires file { file < length set.now }
+    requires section { section < e_shnum (file_at set.now file) }
+    ensures { result ≡ is_instruction (file_at set.now file) section offset }
+{
+    is_text(set, file, section) && offset % 4 == 0 && offset < set.view(file).section(section).size
+}
+
+/// The place of a symbol that is an instruction.
 pub fn instruction(set: &ObjectSet, places: &[Places], file: u32, j: u32) -> Option<CodePlace>
     requires whole { set_refusal set.now ≡ None }
     requires places { AreAllPlaces set.now (length set.now) places.now }
     requires placed { IsPlaced set.now file j }
     ensures { result ≡ instruction_at set.now file j }
 {
-    let section = section_of(set, file, j)?;
     let offset = set.view(file).symbol(j).value;
-    let size = set.view(file).section(section).size;
-    if is_text(set, file, section) && offset % 4 == 0 && offset < size {
-        let section = text_place(set, places, file, section);
-        Some(CodePlace { section, offset })
-    } else {
-        None
+    match section_of(set, file, j) {
+        Some(section) => {
+            if is_instruction(set, file, section, offset) {
+                let section = text_place(set, places, file, section);
+                Some(CodePlace { section, offset })
+            } else {
+                None
+            }
+        }
+        None => None,
     }
 }

@@ -1,0 +1,137 @@
+// What the symbols of a set of files stand for.
+ghost use Rattle.std.specs.Prelude.{◌≡◌, ◌<◌, Some, None, IfOk, length, slice_get};
+ghost use Rattle.elf64_records.specs.FileHeader.{e_shnum};
+ghost use Rattle.elf64_records.specs.Symbols.{symbol_count};
+ghost use Rattle.object_set.specs.Files.{file_at};
+ghost use Rattle.object_set.specs.Refusals.{Answers};
+ghost use Rattle.symbol_table.specs.Text.{text_sections, text_number};
+ghost use Rattle.symbol_table.specs.Targets.{commons, entry_place, resolve_refusal};
+
+use crate::claims::Claims;
+use crate::commons::number_commons;
+use crate::entry::find_entry;
+use crate::table::{Numbers, tabulate};
+use crate::target::CodePlace;
+use crate::text::{Places, is_text, number_sections, text_place};
+use object_set::{ObjectSet, Refusal};
+use std::alloc::Global;
+use std::marker::Model;
+
+/// What the symbols of a set of files stand for, and where the program is entered. Contracts see the set and the entry's place.
+/// Reading it takes no memory.
+#[derive(Drop)]
+pub struct Resolved<'a, 'b> {
+    set: &'b ObjectSet<'a>,
+    claims: Vec<Claims>,
+    numbers: Vec<Numbers>,
+    commons: Vec<(u64, u64)>,
+    shares: Vec<u64>,
+    texts: Vec<(u32, u32)>,
+    places: Vec<Places>,
+    entry: CodePlace,
+}
+
+impl<'a, 'b> Model for Resolved<'a, 'b> {
+    ghost use Rattle.std.specs.Prelude.{◌≡◌, ◌≤◌, List, ℕ, None, length};
+    ghost use Rattle.object_set.specs.Refusals.{set_refusal};
+    ghost use Rattle.symbol_table.specs.declared.target.CodePlace.{CodePlace};
+    ghost use Rattle.symbol_table.specs.Known.{AreAllNumbers, known_symbols, names_of};
+    ghost use Rattle.symbol_table.specs.Text.{text_sections, AreAllPlaces};
+    ghost use Rattle.symbol_table.specs.Targets.{all_claims, commons, AreShares};
+
+    ghost Value = { List (List ℕ) × CodePlace };
+
+    ghost view = { λ r. (r.set.now, r.entry) };
+
+    ghost invariant = {
+        λ r. (set_refusal r.set.now ≡ None) × (r.claims.items ≡ all_claims r.set.now) × (r.commons.items ≡ commons r.set.now) × (r.texts.items ≡ text_sections r.set.now)
+            × (length r.texts.items ≤ 0xFFFFFFFF) × AreAllPlaces r.set.now (length r.set.now) r.places.items
+            × AreAllNumbers (names_of (known_symbols r.set.now)) r.set.now (length r.set.now) r.numbers.items
+            × AreShares (all_claims r.set.now) (length (all_claims r.set.now)) r.shares.items
+    };
+}
+
+/// What the symbols of the files stand for, and where the program is entered; or the first name in first-seen order that has two GLOBAL
+/// definitions, or else why the entry is refused (ELF64, "Symbol Table").
+pub fn resolve<'a, 'b>(alloc: Global, set: &'b ObjectSet<'a>, entry: &[u8]) -> Result<Resolved<'a, 'b>, Refusal>
+    ensures refusal { Answers result (resolve_refusal set.now entry.now) }
+    ensures set { IfOk result (λ r. r.0 ≡ set.now) }
+    ensures entry { IfOk result (λ r. r.1 ≡ entry_place set.now entry.now) }
+{
+    let (table, numbers) = tabulate(alloc, set)?;
+    table.check_names(alloc)?;
+    let (texts, places) = number_sections(alloc, set)?;
+    let stand = table.claims(entry).stand();
+    let place = find_entry(alloc, set, &places, entry, stand)?;
+    let claims = table.into_claims();
+    let (commons, shares) = number_commons(alloc, &claims)?;
+    Ok(Resolved {
+        set,
+        claims,
+        numbers,
+        commons,
+        shares,
+        texts,
+        places,
+        entry: place,
+    })
+}
+
+impl<'a, 'b> Resolved<'a, 'b> {
+    /// The place where the program is entered.
+    pub fn entry(&self) -> CodePlace
+        ensures { result ≡ self.now.1 }
+    {
+        self.entry
+    }
+
+    /// The files.
+    pub fn set(&self) -> &'b ObjectSet<'a>
+        ensures { result.now ≡ self.now.0 }
+    {
+        self.set
+    }
+
+    /// The number of text sections.
+    pub fn text_count(&self) -> u32
+        ensures { result ≡ length (text_sections self.now.0) }
+    {
+        self.texts.len() as u32
+    }
+
+    /// The file and section number of a text section.
+    pub fn text_of(&self, section: u32) -> (u32, u32)
+        requires { section < length (text_sections self.now.0) }
+        ensures { slice_get (text_sections self.now.0) section ≡ Some result }
+    {
+        self.texts[section as usize]
+    }
+
+    /// The number of a section among the text sections, if it is one.
+    pub fn text_number(&self, file: u32, section: u32) -> Option<u32>
+        requires file { file < length self.now.0 }
+        requires section { section < e_shnum (file_at self.now.0 file) }
+        ensures { result ≡ text_number self.now.0 file section }
+    {
+        if is_text(self.set, file, section) {
+            Some(text_place(self.set, &self.places, file, section))
+        } else {
+            None
+        }
+    }
+
+    /// The number of commons.
+    pub fn common_count(&self) -> u64
+        ensures { result ≡ length (commons self.now.0) }
+    {
+        self.commons.len() as u64
+    }
+
+    /// The size and alignment of a common, by its number in first-seen order of the names.
+    pub fn common(&self, c: u64) -> (u64, u64)
+        requires { c < length (commons self.now.0) }
+        ensures { slice_get (commons self.now.0) c ≡ Some result }
+    {
+        self.commons[c as usize]
+    }
+}
