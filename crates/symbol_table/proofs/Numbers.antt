@@ -77,3 +77,14 @@ pub read_at : {X : Type 0} (xs : List X) (k : ℕ) (x d : X) → slice_get xs k 
 read_at [] k x d found = cc
 read_at (y ∷ xs) zero x d found = cc
 read_at (y ∷ xs) (suc k) x d found = read_at xs k x d found
+
+row_read : (rows : List (List ℕ)) (k : ℕ) (x : List ℕ) → k < length rows → x ≡ get_or rows k x → slice_index_or rows k [] ≡ x
+row_read [] k x within is = absurd (omega arith)
+row_read (r ∷ rows) zero x within is = sym is
+row_read (r ∷ rows) (suc k) x within is = row_read rows k x (omega arith) is
+
+pub number_row : (names : List (List ℕ)) (set : List (List ℕ)) (n : ℕ) (rows : List (List ℕ)) (file : ℕ) (x : List ℕ) → AreAllNumbers names set n rows → file < n → x ≡ get_or rows file x →
+    AreNumbers names (file_at set file) (symbol_count (file_at set file)) x
+number_row names set n rows file x are within is =
+    let P : List ℕ → Type 0 = λ r. AreNumbers names (file_at set file) (symbol_count (file_at set file)) r in
+    subst P (row_read rows file x (omega (arith, are.count)) is) (are.each file within)

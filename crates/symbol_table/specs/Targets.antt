@@ -39,8 +39,8 @@ abbrev pub all_claims : List (List ℕ) → List Claims
 all_claims set = (table_of (known_symbols set)).1
 
 -- the size and alignment of each common, in first-seen order of the names
-abbrev pub commons : List (List ℕ) → List (ℕ × ℕ)
-commons set = shared_before (all_claims set) (length (all_claims set))
+abbrev pub all_commons : List (List ℕ) → List (ℕ × ℕ)
+all_commons set = shared_before (all_claims set) (length (all_claims set))
 
 -- how many names before this one stand for a common: the number of its common
 abbrev pub common_number : List (List ℕ) → List ℕ → ℕ
@@ -82,12 +82,16 @@ defined (stand.Definition file number) = Some (file, number)
 defined (stand.Common size align) = None
 defined stand.Nothing = None
 
+-- symbol j of a file is a place or a number by itself
+abbrev pub is_defined : List ℕ → ℕ → Bool
+is_defined b j = is_absolute b j || lies_in_kept b j
+
 -- the definition for which symbol j of a file stands
 abbrev pub definition_of : List (List ℕ) → ℕ → ℕ → Option (ℕ × ℕ)
 definition_of set file j =
     let b = file_at set file in
     if j == 0 || is_toc_base b j then None
-    else (if is_local b j then (if is_absolute b j || lies_in_kept b j then Some (file, j) else None)
+    else (if is_local b j then (if is_defined b j then Some (file, j) else None)
     else defined (stands_for set (name_of b j)))
 
 -- the section of symbol j, where its index is a section's number

@@ -1,5 +1,6 @@
 // What symbols say of a name.
 ghost use Rattle.std.specs.Prelude.{◌≡◌};
+ghost use Rattle.symbol_table.specs.Targets.{defined};
 ghost use Rattle.symbol_table.specs.Claims.{stand_of, joined, no_claims, with_claim, facts_of};
 
 use crate::role::{Known, Role};
@@ -13,6 +14,18 @@ pub enum Stand {
     Common(u64, u64),
     /// Nothing.
     Nothing,
+}
+
+impl Stand {
+    /// The definition, if it is one.
+    pub fn definition(self) -> Option<(u32, u32)>
+        ensures { result ≡ defined self }
+    {
+        match self {
+            Stand::Definition(file, number) => Some((file, number)),
+            Stand::Common(_, _) | Stand::Nothing => None,
+        }
+    }
 }
 
 /// What symbols say of a name. A symbol is given by its file and number.

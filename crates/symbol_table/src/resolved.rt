@@ -5,17 +5,21 @@ ghost use Rattle.elf64_records.specs.Symbols.{symbol_count};
 ghost use Rattle.object_set.specs.Files.{file_at};
 ghost use Rattle.object_set.specs.Refusals.{Answers};
 ghost use Rattle.symbol_table.specs.Text.{text_sections, text_number};
-ghost use Rattle.symbol_table.specs.Targets.{commons, entry_place, resolve_refusal};
+ghost use Rattle.symbol_table.specs.Targets.{all_commons, definition_of, entry_place, resolve_refusal};
 
 use crate::claims::Claims;
 use crate::commons::number_commons;
 use crate::entry::find_entry;
-use crate::table::{Numbers, tabulate};
+use crate::role::is_local;
+use crate::table::{Numbers, claims_at, tabulate};
 use crate::target::CodePlace;
-use crate::text::{Places, is_text, number_sections, text_place};
+use crate::text::{Places, is_defined, is_text, number_sections, text_place};
 use object_set::{ObjectSet, Refusal};
 use std::alloc::Global;
 use std::marker::Model;
+
+/// The name of the base of the table of contents.
+const TOC_BASE: &[u8] = b".TOC.";
 
 /// What the symbols of a set of files stand for, and where the program is entered. Contracts see the set and the entry's place.
 /// Reading it takes no memory.
@@ -37,14 +41,14 @@ impl<'a, 'b> Model for Resolved<'a, 'b> {
     ghost use Rattle.symbol_table.specs.declared.target.CodePlace.{CodePlace};
     ghost use Rattle.symbol_table.specs.Known.{AreAllNumbers, known_symbols, names_of};
     ghost use Rattle.symbol_table.specs.Text.{text_sections, AreAllPlaces};
-    ghost use Rattle.symbol_table.specs.Targets.{all_claims, commons, AreShares};
+    ghost use Rattle.symbol_table.specs.Targets.{all_claims, all_commons, AreShares};
 
     ghost Value = { List (List ℕ) × CodePlace };
 
     ghost view = { λ r. (r.set.now, r.entry) };
 
     ghost invariant = {
-        λ r. (set_refusal r.set.now ≡ None) × (r.claims.items ≡ all_claims r.set.now) × (r.commons.items ≡ commons r.set.now) × (r.texts.items ≡ text_sections r.set.now)
+        λ r. (set_refusal r.set.now ≡ None) × (r.claims.items ≡ all_claims r.set.now) × (r.commons.items ≡ all_commons r.set.now) × (r.texts.items ≡ text_sections r.set.now)
             × (length r.texts.items ≤ 0xFFFFFFFF) × AreAllPlaces r.set.now (length r.set.now) r.places.items
             × AreAllNumbers (names_of (known_symbols r.set.now)) r.set.now (length r.set.now) r.numbers.items
             × AreShares (all_claims r.set.now) (length (all_claims r.set.now)) r.shares.items
@@ -122,16 +126,33 @@ impl<'a, 'b> Resolved<'a, 'b> {
 
     /// The number of commons.
     pub fn common_count(&self) -> u64
-        ensures { result ≡ length (commons self.now.0) }
+        ensures { result ≡ length (all_commons self.now.0) }
     {
         self.commons.len() as u64
     }
 
     /// The size and alignment of a common, by its number in first-seen order of the names.
     pub fn common(&self, c: u64) -> (u64, u64)
-        requires { c < length (commons self.now.0) }
-        ensures { slice_get (commons self.now.0) c ≡ Some result }
+        requires { c < length (all_commons self.now.0) }
+        ensures { slice_get (all_commons self.now.0) c ≡ Some result }
     {
         self.commons[c as usize]
+    }
+
+    /// The file and number of the definition for which a symbol stands. None for symbol 0, for `.TOC.`, and for a symbol that stands for
+    /// a common or for nothing.
+    pub fn definition(&self, file: u32, symbol: u32) -> Option<(u32, u32)>
+        requires file { file < length self.now.0 }
+        requires symbol { symbol < symbol_count (file_at self.now.0 file) }
+        ensures { result ≡ definition_of self.now.0 file symbol }
+    {
+        let view = self.set.view(file);
+        if symbol == 0 || view.symbol(symbol).name == TOC_BASE {
+            None
+        } else if is_local(view, symbol) {
+            if is_defined(self.set, file, symbol) { Some((file, symbol)) } else { None }
+        } else {
+            claims_at(self.set, &self.numbers, &self.claims, file, symbol).stand().definition()
+        }
     }
 }

@@ -1,10 +1,11 @@
 // What the symbols of a set of files say of each name.
-ghost use Rattle.std.specs.Prelude.{false, ◌<◌, ◌≡◌, List, ◌∷◌, [], ◌++◌, Some, None, IfOk, OnOk, length, slice_get};
+ghost use Rattle.std.specs.Prelude.{false, ◌<◌, ◌≡◌, List, ◌∷◌, [], ◌++◌, Some, None, IfOk, OnOk, length, slice_get, slice_index};
 ghost use Rattle.elf64_records.specs.Symbols.{symbol_count};
 ghost use Rattle.object_set.specs.Files.{file_at};
 ghost use Rattle.object_set.specs.Refusals.{set_refusal, Answers};
 ghost use Rattle.object_set.specs.Symbols.{is_local, name_of};
 ghost use Rattle.symbol_table.specs.Known.{KnownSymbol, seen, known_in, Grows, AreNumbers, AreAllNumbers, known_symbols, names_of};
+ghost use Rattle.symbol_table.specs.Targets.{all_claims};
 ghost use Rattle.symbol_table.specs.Names.{with_name};
 ghost use Rattle.symbol_table.specs.Claims.{table_of, claims_of, facts_of, unclaimed, duplicate_at, duplicates};
 
@@ -192,4 +193,38 @@ pub fn tabulate<'a>(alloc: Global, set: &ObjectSet<'a>) -> Result<(Table<'a>, Ve
         numbers.push(row)?;
     }
     Ok((table, numbers))
+}
+
+impl Numbers {
+    /// The number of the name of a symbol.
+    fn of(&self, j: u32) -> usize
+        requires { j < length self.now }
+        ensures { result ≡ slice_index self.now j }
+    {
+        self.items[j as usize]
+    }
+}
+
+/// The number of the name of a symbol that other files see.
+pub fn name_number(set: &ObjectSet, numbers: &[Numbers], file: u32, j: u32) -> usize
+    requires numbers { AreAllNumbers (names_of (known_symbols set.now)) set.now (length set.now) numbers.now }
+    requires file { file < length set.now }
+    requires within { j < symbol_count (file_at set.now file) }
+    requires known { is_local (file_at set.now file) j ≡ false }
+    ensures { slice_get (names_of (known_symbols set.now)) result ≡ Some (name_of (file_at set.now file) j) }
+{
+    numbers[file as usize].of(j)
+}
+
+/// What is said of the name of a symbol that other files see.
+pub fn claims_at(set: &ObjectSet, numbers: &[Numbers], claims: &[Claims], file: u32, j: u32) -> Claims
+    requires numbers { AreAllNumbers (names_of (known_symbols set.now)) set.now (length set.now) numbers.now }
+    requires claims { claims.now ≡ all_claims set.now }
+    requires file { file < length set.now }
+    requires within { j < symbol_count (file_at set.now file) }
+    requires known { is_local (file_at set.now file) j ≡ false }
+    ensures { result ≡ claims_of (known_symbols set.now) (name_of (file_at set.now file) j) }
+{
+    let number = name_number(set, numbers, file, j);
+    claims[number]
 }

@@ -4,10 +4,10 @@ ghost use Rattle.elf64_records.specs.FileHeader.{e_shnum};
 ghost use Rattle.object_set.specs.Files.{file_at};
 ghost use Rattle.object_set.specs.Sections.{is_text};
 ghost use Rattle.object_set.specs.Refusals.{set_refusal};
-ghost use Rattle.symbol_table.specs.Targets.{instruction_at, is_instruction, section_index, IsPlaced};
+ghost use Rattle.symbol_table.specs.Targets.{is_defined, instruction_at, is_instruction, section_index, IsPlaced};
 ghost use Rattle.symbol_table.specs.Text.{text_place, text_at, text_in, text_before, text_sections, ArePlaces, AreAllPlaces};
 
-use crate::role::SHN_LORESERVE;
+use crate::role::{SHN_ABS, SHN_LORESERVE, is_kept};
 use crate::target::CodePlace;
 use object_set::{ObjectSet, Sort};
 use std::alloc::{AllocError, Global};
@@ -152,5 +152,20 @@ pub fn instruction(set: &ObjectSet, places: &[Places], file: u32, j: u32) -> Opt
             }
         }
         None => None,
+    }
+}
+
+/// Whether a symbol is a place or a number: it lies in a kept section, or is absolute.
+pub fn is_defined(set: &ObjectSet, file: u32, j: u32) -> bool
+    requires whole { set_refusal set.now ≡ None }
+    requires placed { IsPlaced set.now file j }
+    ensures { result ≡ is_defined (file_at set.now file) j }
+{
+    if set.view(file).symbol(j).shndx == SHN_ABS {
+        return true;
+    }
+    match section_of(set, file, j) {
+        Some(section) => is_kept(set.sort_of(file, section)),
+        None => false,
     }
 }
