@@ -20,7 +20,7 @@ shared_more claims i d old new within before is =
     let c = get_or claims i d in
     let more : take (i + 1) claims ≡ take i claims ++ c ∷ [] = take_more claims i d within in
     let step : shared_before claims (i + 1) ≡ shared_before claims i ++ common_at (f c) =
-        ap (filter_map f) more ∙ filter_map-append f (take i claims) (c ∷ []) ∙ ap (λ (l : List (ℕ × ℕ)). shared_before claims i ++ l) (single f c (f c) refl) in
+    ap (filter_map f) more ∙ filter_map-append f (take i claims) (c ∷ []) ∙ ap (λ (l : List (ℕ × ℕ)). shared_before claims i ++ l) (single f c (f c) refl) in
     is ∙ ap (λ (l : List (ℕ × ℕ)). l ++ common_at (f c)) before ∙ sym step
 
 pub shares_more : (claims : List Claims) (n : ℕ) (row : List ℕ) (k : ℕ) → AreShares claims n row → k ≡ length (shared_before claims n) → AreShares claims (n + 1) (row ++ k ∷ [])

@@ -144,10 +144,12 @@ unseen_from : (name : List ℕ) (acc : List (List ℕ)) (xs : List KnownSymbol) 
 unseen_from name acc [] none = (none, λ does. refl)
 unseen_from name acc (x ∷ xs) none =
     let later = unseen_from name (with_name acc x.name) xs none in
-    let now = stays_case acc name x.name (list_any (bytes_eq x.name) acc) refl later.0 in
-    (now.0, λ does.
-      let test : (bytes_eq name x.name && does x.role) ≡ false = ap (λ b. b && does x.role) now.1 in
-      ap (λ (b : Bool). if b then x ∷ bearing does name xs else bearing does name xs) test ∙ later.1 does)
+    let now = stays_case acc name x.name (list_any (bytes_eq x.name) acc) refl later.0 in (
+      now.0,
+      λ does.
+          let test : (bytes_eq name x.name && does x.role) ≡ false = ap (λ b. b && does x.role) now.1 in
+          ap (λ (b : Bool). if b then x ∷ bearing does name xs else bearing does name xs) test ∙ later.1 does,
+    )
 
 pub unseen : (name : List ℕ) (xs : List KnownSymbol) → list_any (bytes_eq name) (names_of xs) ≡ false → claims_of xs name ≡ no_claims
 unseen name xs none = let all = (unseen_from name [] xs none).1 in three (all is_global_role) (all is_common_role) (all is_weak_role)

@@ -51,19 +51,19 @@ table_step symbols s old names middle claims k x is more unclaimed_more found re
     let g = claims_of (symbols ++ s ∷ []) in
     let now : names ≡ with_name (names_of symbols) s.name = more ∙ ap (λ (t : List (List ℕ) × List Claims). with_name t.0 s.name) is in
     let all : middle ≡ map f (with_name (names_of symbols) s.name) =
-        unclaimed_more ∙ ap (λ (t : List (List ℕ) × List Claims). t.1 ++ unclaimed t.0 s.name) is ∙ claims_before symbols s.name in
+    unclaimed_more ∙ ap (λ (t : List (List ℕ) × List Claims). t.1 ++ unclaimed t.0 s.name) is ∙ claims_before symbols s.name in
     let place : slice_get (with_name (names_of symbols) s.name) k ≡ Some s.name = ap (λ (l : List (List ℕ)). slice_get l k) (sym now) ∙ found in
     let there : slice_get middle k ≡ Some (f s.name) =
-        ap (λ (l : List Claims). slice_get l k) all ∙ slice_get-map f (with_name (names_of symbols) s.name) k ∙ ap (option_map f) place in
+    ap (λ (l : List Claims). slice_get l k) all ∙ slice_get-map f (with_name (names_of symbols) s.name) k ∙ ap (option_map f) place in
     let read_is : x ≡ f s.name = some_same x (f s.name) (sym read ∙ there) in
     let own : g s.name ≡ with_claim (f s.name) s.role s = same_name_more s.name symbols s (bytes_same s.name) in
     let once : IsOnce (with_name (names_of symbols) s.name) = once_with_name (names_of symbols) s.name (once_names symbols) in
     let change : map g (with_name (names_of symbols) s.name) ≡ slice_set (map f (with_name (names_of symbols) s.name)) k (g s.name) =
-        changed f g s.name (λ other differs. other_name other symbols s differs) (with_name (names_of symbols) s.name) k once place in
+    changed f g s.name (λ other differs. other_name other symbols s differs) (with_name (names_of symbols) s.name) k once place in
     let value : with_claim x s.role s ≡ g s.name = ap (λ (c : Claims). with_claim c s.role s) read_is ∙ sym own in
     let wrote : claims ≡ map g (with_name (names_of symbols) s.name) =
-        written ∙ ap (λ (l : List Claims). slice_set l k (with_claim x s.role s)) all
-        ∙ ap (λ (c : Claims). slice_set (map f (with_name (names_of symbols) s.name)) k c) value ∙ sym change in
+    written ∙ ap (λ (l : List Claims). slice_set l k (with_claim x s.role s)) all
+    ∙ ap (λ (c : Claims). slice_set (map f (with_name (names_of symbols) s.name)) k c) value ∙ sym change in
     let named = names_more symbols s in
     ap (λ (l : List (List ℕ)). (l, claims)) (now ∙ sym named)
     ∙ ap (λ (l : List Claims). (names_of (symbols ++ s ∷ []), l)) (wrote ∙ ap (map g) (sym named))

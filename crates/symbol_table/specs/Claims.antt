@@ -80,7 +80,7 @@ joined (Some common) size value = (max common.0 size, max common.1 value)
 abbrev pub with_claim : Claims → Role → KnownSymbol → Claims
 with_claim claims role.Global s = record claims {
   global = claims.global orelse Some (place_of s);
-  second = if is_some claims.global then claims.second orelse Some s.file else claims.second
+  second = if is_some claims.global then claims.second orelse Some s.file else claims.second;
 }
 with_claim claims role.Common s = record claims { common = Some (joined claims.common s.size s.value) }
 with_claim claims role.Weak s = record claims { weak = claims.weak orelse Some (place_of s) }

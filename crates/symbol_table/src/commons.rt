@@ -17,7 +17,10 @@ fn take_common(commons: &mut Vec<(u64, u64)>, claims: Claims) -> Result<(), Allo
 }
 
 /// The size and alignment of each common, and how many commons stand before each name.
-pub fn number_commons(alloc: Global, claims: &[Claims]) -> Result<(Vec<(u64, u64)>, Vec<u64>), AllocError>
+pub fn number_commons(
+    alloc: Global,
+    claims: &[Claims],
+) -> Result<(Vec<(u64, u64)>, Vec<u64>), AllocError>
     ensures commons { IfOk result (λ r. r.0.items ≡ shared_before claims.now (length claims.now)) }
     ensures shares { IfOk result (λ r. AreShares claims.now (length claims.now) r.1.items) }
 {

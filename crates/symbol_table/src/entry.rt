@@ -13,7 +13,13 @@ use ppc_bytes::Bytes;
 use std::alloc::Global;
 
 /// The place of the entry, or its refusal: nothing has its name, or what the name stands for is no instruction.
-pub fn find_entry(alloc: Global, set: &ObjectSet, places: &[Places], entry: &[u8], stand: Stand) -> Result<CodePlace, Refusal>
+pub fn find_entry(
+    alloc: Global,
+    set: &ObjectSet,
+    places: &[Places],
+    entry: &[u8],
+    stand: Stand,
+) -> Result<CodePlace, Refusal>
     requires whole { set_refusal set.now ≡ None }
     requires places { AreAllPlaces set.now (length set.now) places.now }
     requires stand { stand ≡ stands_for set.now entry.now }

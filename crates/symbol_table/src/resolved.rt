@@ -47,17 +47,19 @@ impl<'a, 'b> Model for Resolved<'a, 'b> {
 
     ghost view = { λ r. (r.set.now, r.entry) };
 
-    ghost invariant = {
-        λ r. (set_refusal r.set.now ≡ None) × (r.claims.items ≡ all_claims r.set.now) × (r.commons.items ≡ all_commons r.set.now) × (r.texts.items ≡ text_sections r.set.now)
-            × (length r.texts.items ≤ 0xFFFFFFFF) × AreAllPlaces r.set.now (length r.set.now) r.places.items
-            × AreAllNumbers (names_of (known_symbols r.set.now)) r.set.now (length r.set.now) r.numbers.items
-            × AreShares (all_claims r.set.now) (length (all_claims r.set.now)) r.shares.items
-    };
+    ghost invariant = { λ r. (set_refusal r.set.now ≡ None) × (r.claims.items ≡ all_claims r.set.now) × (r.commons.items ≡ all_commons r.set.now) × (r.texts.items ≡ text_sections r.set.now)
+        × (length r.texts.items ≤ 0xFFFFFFFF) × AreAllPlaces r.set.now (length r.set.now) r.places.items
+        × AreAllNumbers (names_of (known_symbols r.set.now)) r.set.now (length r.set.now) r.numbers.items
+        × AreShares (all_claims r.set.now) (length (all_claims r.set.now)) r.shares.items };
 }
 
 /// What the symbols of the files stand for, and where the program is entered; or the first name in first-seen order that has two GLOBAL
 /// definitions, or else why the entry is refused (ELF64, "Symbol Table").
-pub fn resolve<'a, 'b>(alloc: Global, set: &'b ObjectSet<'a>, entry: &[u8]) -> Result<Resolved<'a, 'b>, Refusal>
+pub fn resolve<'a, 'b>(
+    alloc: Global,
+    set: &'b ObjectSet<'a>,
+    entry: &[u8],
+) -> Result<Resolved<'a, 'b>, Refusal>
     ensures refusal { Answers result (resolve_refusal set.now entry.now) }
     ensures set { IfOk result (λ r. r.0 ≡ set.now) }
     ensures entry { IfOk result (λ r. r.1 ≡ entry_place set.now entry.now) }
@@ -150,9 +152,15 @@ impl<'a, 'b> Resolved<'a, 'b> {
         if symbol == 0 || view.symbol(symbol).name == TOC_BASE {
             None
         } else if is_local(view, symbol) {
-            if is_defined(self.set, file, symbol) { Some((file, symbol)) } else { None }
+            if is_defined(self.set, file, symbol) {
+                Some((file, symbol))
+            } else {
+                None
+            }
         } else {
-            claims_at(self.set, &self.numbers, &self.claims, file, symbol).stand().definition()
+            claims_at(self.set, &self.numbers, &self.claims, file, symbol)
+                .stand()
+                .definition()
         }
     }
 }

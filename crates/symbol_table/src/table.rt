@@ -137,7 +137,12 @@ impl Model for Numbers {
 }
 
 /// Takes in symbol `j` of a file, where other files see it, and gives the number of its name.
-fn add_symbol<'a>(table: &mut Table<'a>, set: &ObjectSet<'a>, file: u32, j: u32) -> Result<usize, AllocError>
+fn add_symbol<'a>(
+    table: &mut Table<'a>,
+    set: &ObjectSet<'a>,
+    file: u32,
+    j: u32,
+) -> Result<usize, AllocError>
     requires whole { set_refusal set.now ≡ None }
     requires same_length { length table.old.1 ≡ length table.old.0 }
     requires file { file < length set.now }
@@ -163,7 +168,12 @@ fn add_symbol<'a>(table: &mut Table<'a>, set: &ObjectSet<'a>, file: u32, j: u32)
 }
 
 /// Takes in the symbols of a file, and gives the numbers of their names.
-fn add_file<'a>(alloc: Global, table: &mut Table<'a>, set: &ObjectSet<'a>, file: u32) -> Result<Numbers, AllocError>
+fn add_file<'a>(
+    alloc: Global,
+    table: &mut Table<'a>,
+    set: &ObjectSet<'a>,
+    file: u32,
+) -> Result<Numbers, AllocError>
     requires whole { set_refusal set.now ≡ None }
     requires same_length { length table.old.1 ≡ length table.old.0 }
     requires file { file < length set.now }
@@ -181,7 +191,10 @@ fn add_file<'a>(alloc: Global, table: &mut Table<'a>, set: &ObjectSet<'a>, file:
 }
 
 /// What the symbols of all files say of their names, and for each file the numbers of these.
-pub fn tabulate<'a>(alloc: Global, set: &ObjectSet<'a>) -> Result<(Table<'a>, Vec<Numbers>), AllocError>
+pub fn tabulate<'a>(
+    alloc: Global,
+    set: &ObjectSet<'a>,
+) -> Result<(Table<'a>, Vec<Numbers>), AllocError>
     ensures table { IfOk result (λ r. r.0 ≡ table_of (known_symbols set.now)) }
     ensures whole { IfOk result (λ r. set_refusal set.now ≡ None) }
     ensures numbers { IfOk result (λ r. AreAllNumbers (names_of (known_symbols set.now)) set.now (length set.now) r.1.items) }
@@ -217,7 +230,13 @@ pub fn name_number(set: &ObjectSet, numbers: &[Numbers], file: u32, j: u32) -> u
 }
 
 /// What is said of the name of a symbol that other files see.
-pub fn claims_at(set: &ObjectSet, numbers: &[Numbers], claims: &[Claims], file: u32, j: u32) -> Claims
+pub fn claims_at(
+    set: &ObjectSet,
+    numbers: &[Numbers],
+    claims: &[Claims],
+    file: u32,
+    j: u32,
+) -> Claims
     requires numbers { AreAllNumbers (names_of (known_symbols set.now)) set.now (length set.now) numbers.now }
     requires claims { claims.now ≡ all_claims set.now }
     requires file { file < length set.now }

@@ -53,7 +53,12 @@ pub fn is_text(set: &ObjectSet, file: u32, section: u32) -> bool
 }
 
 /// Puts a section behind others, where it is text.
-fn take_section(texts: &mut Vec<(u32, u32)>, set: &ObjectSet, file: u32, section: u32) -> Result<(), AllocError>
+fn take_section(
+    texts: &mut Vec<(u32, u32)>,
+    set: &ObjectSet,
+    file: u32,
+    section: u32,
+) -> Result<(), AllocError>
     requires file { file < length set.now }
     requires section { section < e_shnum (file_at set.now file) }
     ensures { OnOk result (texts.new.items ≡ texts.old.items ++ text_at file (file_at set.now file) section) }
@@ -65,7 +70,12 @@ fn take_section(texts: &mut Vec<(u32, u32)>, set: &ObjectSet, file: u32, section
 }
 
 /// Puts the text sections of a file behind those of the files before it, and says how many stand before each of its sections.
-fn number_file(alloc: Global, texts: &mut Vec<(u32, u32)>, set: &ObjectSet, file: u32) -> Result<Places, AllocError>
+fn number_file(
+    alloc: Global,
+    texts: &mut Vec<(u32, u32)>,
+    set: &ObjectSet,
+    file: u32,
+) -> Result<Places, AllocError>
     requires file { file < length set.now }
     requires before { texts.old.items ≡ text_before set.now file }
     ensures texts { OnOk result (texts.new.items ≡ text_before set.now file ++ text_in file (file_at set.now file) (e_shnum (file_at set.now file))) }
@@ -83,7 +93,10 @@ fn number_file(alloc: Global, texts: &mut Vec<(u32, u32)>, set: &ObjectSet, file
 }
 
 /// The text sections of all files, and for each file how many stand before each of its sections.
-pub fn number_sections(alloc: Global, set: &ObjectSet) -> Result<(Vec<(u32, u32)>, Vec<Places>), AllocError>
+pub fn number_sections(
+    alloc: Global,
+    set: &ObjectSet,
+) -> Result<(Vec<(u32, u32)>, Vec<Places>), AllocError>
     ensures texts { IfOk result (λ r. r.0.items ≡ text_sections set.now) }
     ensures few { IfOk result (λ r. length r.0.items ≤ 0xFFFFFFFF) }
     ensures places { IfOk result (λ r. AreAllPlaces set.now (length set.now) r.1.items) }

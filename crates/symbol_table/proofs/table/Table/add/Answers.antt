@@ -14,9 +14,9 @@ returns-clause-table c =
     let lengths = c.in_ok-number.ensures.same_length in
     let within : c.in_ok-number.number < length c.self.inside.claims.items = omega (arith, inside, same, lengths) in
     λ symbols is.
-      table_step symbols (facts_of c.args.symbol) c.args.self.now c.self.inside.names c.self.inside.claims.items
-      (slice_set c.self.inside.claims.items c.in_ok-number.number c.with-claims.result) c.in_ok-number.number c.index.result.now is
-      (names ∙ c.in_ok-number.ensures.names) (claims ∙ c.in_ok-number.ensures.claims)
-      (ap (λ (l : List (List ℕ)). slice_get l c.in_ok-number.number) names ∙ c.in_ok-number.ensures.number)
-      (slice_get_read c.self.inside.claims.items (length c.self.inside.claims.items) c.in_ok-number.number c.index.result.now refl within c.index.ensures)
-      (ap (λ (v : Claims). slice_set c.self.inside.claims.items c.in_ok-number.number v) c.with-claims.ensures)
+    table_step symbols (facts_of c.args.symbol) c.args.self.now c.self.inside.names c.self.inside.claims.items
+    (slice_set c.self.inside.claims.items c.in_ok-number.number c.with-claims.result) c.in_ok-number.number c.index.result.now is
+    (names ∙ c.in_ok-number.ensures.names) (claims ∙ c.in_ok-number.ensures.claims)
+    (ap (λ (l : List (List ℕ)). slice_get l c.in_ok-number.number) names ∙ c.in_ok-number.ensures.number)
+    (slice_get_read c.self.inside.claims.items (length c.self.inside.claims.items) c.in_ok-number.number c.index.result.now refl within c.index.ensures)
+    (ap (λ (v : Claims). slice_set c.self.inside.claims.items c.in_ok-number.number v) c.with-claims.ensures)
