@@ -5,7 +5,9 @@ use Rattle.std.specs.Str.{bytes_eq}
 use Rattle.elf64_records.specs.Sections.{sh_size}
 use Rattle.elf64_records.specs.Symbols.{st_value, symbol_count}
 use Rattle.object_set.specs.Files.{file_at}
-use Rattle.object_set.specs.Sections.{is_text}
+use Rattle.object_set.specs.Sections.{is_text, sort_of}
+use Rattle.object_set.specs.declared.sort.Sort.{Sort}
+use Rattle.object_set.specs.declared.sort.Sort.TheVariants.{Text, Zeroed, Toc, Writable, ReadOnly, Dropped}
 use Rattle.object_set.specs.Symbols.{name_of, is_local, is_weak, has_section, is_absolute, is_toc_base, index_of, lies_in_kept, lies_in_text}
 use Rattle.object_set.specs.declared.refusal.Refusal.{Refusal}
 use Rattle.object_set.specs.declared.refusal.Refusal.TheVariants.{NoEntry, EntryNotCode}
@@ -50,15 +52,30 @@ common_number set name = length (shared_before (all_claims set) (position_or_len
 abbrev pub moved : ℕ → ℤ → ℕ
 moved value addend = (value + cast_unsigned w64 addend) % 2 ^ 64
 
--- where symbol j of a file lies, moved by an addend: at a number, in text or in data; nowhere, where its section isn't kept
+-- the section of symbol j, where its index is a section's number
+abbrev pub section_index : List ℕ → ℕ → Option ℕ
+section_index b j = if has_section b j then Some (index_of b j) else None
+
+-- where something at an offset of section i of a file goes, by the section's sort: to text, to data, or nowhere where the section
+-- isn't kept
+abbrev pub section_target : List (List ℕ) → ℕ → ℕ → ℕ → Sort → Option Target
+section_target set file at i Text = Some (target.Code (text_place set file i) at)
+section_target set file at i Zeroed = Some (target.Data (piece.Section file i) (cast_signed w64 at))
+section_target set file at i Toc = Some (target.Data (piece.Section file i) (cast_signed w64 at))
+section_target set file at i Writable = Some (target.Data (piece.Section file i) (cast_signed w64 at))
+section_target set file at i ReadOnly = Some (target.Data (piece.Section file i) (cast_signed w64 at))
+section_target set file at i Dropped = None
+
+abbrev pub index_target : List (List ℕ) → ℕ → ℕ → Option ℕ → Option Target
+index_target set file at None = None
+index_target set file at (Some i) = section_target set file at i (sort_of (file_at set file) i)
+
+-- where symbol j of a file lies, moved by an addend: at a number, in text or in data
 abbrev pub own_target : List (List ℕ) → ℕ → ℕ → ℤ → Option Target
 own_target set file j addend =
     let b = file_at set file in
     let at = moved (st_value b j) addend in
-    if is_absolute b j then Some (target.Number at)
-    else (if lies_in_text b j then Some (target.Code (text_place set file (index_of b j)) at)
-    else (if lies_in_kept b j then Some (target.Data (piece.Section file (index_of b j)) (cast_signed w64 at))
-    else None))
+    if is_absolute b j then Some (target.Number at) else index_target set file at (section_index b j)
 
 -- where a name goes, moved by an addend; a weak symbol may stand for nothing
 abbrev pub named_target : List (List ℕ) → List ℕ → Bool → Stand → ℤ → Option Target
@@ -93,10 +110,6 @@ definition_of set file j =
     if j == 0 || is_toc_base b j then None
     else (if is_local b j then (if is_defined b j then Some (file, j) else None)
     else defined (stands_for set (name_of b j)))
-
--- the section of symbol j, where its index is a section's number
-abbrev pub section_index : List ℕ → ℕ → Option ℕ
-section_index b j = if has_section b j then Some (index_of b j) else None
 
 -- an instruction stands at an offset of section i of a file: in text, at a multiple of 4 below the section's size
 abbrev pub is_instruction : List ℕ → ℕ → ℕ → Bool

@@ -2,13 +2,13 @@
 ghost use Rattle.std.specs.Prelude.{◌≡◌, ◌≤◌, ◌<◌, ◌++◌, IfOk, IfSome, OnOk, None, length, slice_index};
 ghost use Rattle.elf64_records.specs.FileHeader.{e_shnum};
 ghost use Rattle.object_set.specs.Files.{file_at};
-ghost use Rattle.object_set.specs.Sections.{is_text};
+ghost use Rattle.object_set.specs.Sections.{is_text, sort_of};
 ghost use Rattle.object_set.specs.Refusals.{set_refusal};
-ghost use Rattle.symbol_table.specs.Targets.{is_defined, instruction_at, is_instruction, section_index, IsPlaced};
+ghost use Rattle.symbol_table.specs.Targets.{moved, own_target, section_target, is_defined, instruction_at, is_instruction, section_index, IsPlaced};
 ghost use Rattle.symbol_table.specs.Text.{text_place, text_at, text_in, text_before, text_sections, ArePlaces, AreAllPlaces};
 
 use crate::role::{SHN_ABS, SHN_LORESERVE, is_kept};
-use crate::target::CodePlace;
+use crate::target::{CodePlace, Piece, Target};
 use object_set::{ObjectSet, Sort};
 use std::alloc::{AllocError, Global};
 use std::marker::Model;
@@ -180,5 +180,50 @@ pub fn is_defined(set: &ObjectSet, file: u32, j: u32) -> bool
     match section_of(set, file, j) {
         Some(section) => is_kept(set.sort_of(file, section)),
         None => false,
+    }
+}
+
+/// A value and an addend, modulo 2^64.
+pub fn moved(value: u64, addend: i64) -> u64
+    ensures { result ≡ moved value addend }
+{
+    value.wrapping_add(addend.cast_unsigned())
+}
+
+/// Where something at an offset of a section goes: to text or to data, or nowhere if the section isn't kept.
+fn section_target(set: &ObjectSet, places: &[Places], file: u32, section: u32, at: u64) -> Option<Target>
+    requires places { AreAllPlaces set.now (length set.now) places.now }
+    requires file { file < length set.now }
+    requires section { section < e_shnum (file_at set.now file) }
+    ensures { result ≡ section_target set.now file at section (sort_of (file_at set.now file) section) }
+{
+    match set.sort_of(file, section) {
+        Sort::Text => Some(Target::Code {
+            section: text_place(set, places, file, section),
+            offset: at,
+        }),
+        Sort::Dropped => None,
+        Sort::Zeroed | Sort::Toc | Sort::Writable | Sort::ReadOnly => Some(Target::Data {
+            piece: Piece::Section(file, section),
+            addend: at.cast_signed(),
+        }),
+    }
+}
+
+/// Where a symbol lies, moved by an addend.
+pub fn own_target(set: &ObjectSet, places: &[Places], file: u32, j: u32, addend: i64) -> Option<Target>
+    requires whole { set_refusal set.now ≡ None }
+    requires places { AreAllPlaces set.now (length set.now) places.now }
+    requires placed { IsPlaced set.now file j }
+    ensures { result ≡ own_target set.now file j addend }
+{
+    let symbol = set.view(file).symbol(j);
+    let at = moved(symbol.value, addend);
+    if symbol.shndx == SHN_ABS {
+        return Some(Target::Number(at));
+    }
+    match section_of(set, file, j) {
+        Some(section) => section_target(set, places, file, section, at),
+        None => None,
     }
 }
