@@ -1,6 +1,7 @@
 -- Names, each of which stands once.
 use Rattle.std.proofs.Common.{◌≡◌, ◌≢◌, ◌⊎◌, ℕ, ◌<◌, zero, suc, length-append, if◌then◌else◌, Bool, true, false, List, [], ◌∷◌, ◌++◌, ◌||◌, length, Option, Some, None, slice_get, slice_set, map, sym, ap, ◌∙◌, refl, arith, inl, inr}
-use Rattle.std.specs.List.{list_any}
+use Rattle.std.specs.List.{list_any, position_or_len}
+use Rattle.std.proofs.Common.{cond, not, ◌+◌}
 use Rattle.std.specs.Str.{bytes_eq}
 use Rattle.std.proofs.lemmas.Slice.Eq.{bytes_eq-Decides}
 use Rattle.std.proofs.lemmas.Option.{slice_get_within}
@@ -113,3 +114,21 @@ module _ {X : Type 0} (f g : List ℕ → X) (name : List ℕ) (same : (other : 
       let first = same x (absent x name names k lone found) in
       let rest = changed names k once found in
       cc
+
+position_case : (name x : List ℕ) (names : List (List ℕ)) (k : ℕ) (b : Bool) → bytes_eq name x ≡ b → b ≡ false → position_or_len (bytes_eq name) names ≡ k →
+    position_or_len (bytes_eq name) (x ∷ names) ≡ suc k
+position_case name x names k b is none rest =
+    let differs : bytes_eq name x ≡ false = is ∙ none in
+    let step : position_or_len (bytes_eq name) (x ∷ names) ≡ 1 + position_or_len (bytes_eq name) names =
+        ap (λ (t : Bool). cond (not t) (1 + position_or_len (bytes_eq name) names) 0) differs in
+    omega (arith, step, rest)
+
+-- where each name stands once, a name's first place is its place
+pub position_once : (names : List (List ℕ)) (k : ℕ) (name : List ℕ) → IsOnce names → slice_get names k ≡ Some name → position_or_len (bytes_eq name) names ≡ k
+position_once [] k name once found = cc
+position_once (x ∷ names) zero name once found =
+    let this : x ≡ name = cc in
+    let same : bytes_eq name x ≡ true = ap (λ n. bytes_eq name n) this ∙ bytes_same name in
+    ap (λ (t : Bool). cond (not t) (1 + position_or_len (bytes_eq name) names) 0) same
+position_once (x ∷ names) (suc k) name (More _ _ lone once) found =
+    position_case name x names k (bytes_eq name x) refl (flip x name (absent x name names k lone found)) (position_once names k name once found)

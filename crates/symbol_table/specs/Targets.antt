@@ -84,6 +84,12 @@ named_target set name weak (stand.Common size align) addend = Some (target.Data 
 named_target set name true stand.Nothing addend = Some (target.WeakNone addend)
 named_target set name false stand.Nothing addend = None
 
+-- where the name of symbol j of a file goes, moved by an addend
+abbrev pub known_target : List (List ℕ) → ℕ → ℕ → ℤ → Option Target
+known_target set file j addend =
+    let b = file_at set file in
+    named_target set (name_of b j) (is_weak b j) (stands_for set (name_of b j)) addend
+
 -- where symbol j of a file goes, moved by an addend; None where it stands for nothing and isn't weak
 abbrev pub target_of : List (List ℕ) → ℕ → ℕ → ℤ → Option Target
 target_of set file j addend =
@@ -91,7 +97,7 @@ target_of set file j addend =
     if j == 0 then Some (target.Number (moved 0 addend))
     else (if is_toc_base b j then Some (target.TocBase file addend)
     else (if is_local b j then own_target set file j addend
-    else named_target set (name_of b j) (is_weak b j) (stands_for set (name_of b j)) addend))
+    else known_target set file j addend))
 
 -- the definition for which a name stands
 abbrev pub defined : Stand → Option (ℕ × ℕ)

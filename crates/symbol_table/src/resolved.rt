@@ -1,19 +1,20 @@
 // What the symbols of a set of files stand for.
-ghost use Rattle.std.specs.Prelude.{◌≡◌, ◌<◌, Some, None, IfOk, length, slice_get};
+ghost use Rattle.std.specs.Prelude.{◌≡◌, ◌<◌, Some, None, false, IsSome, IfOk, length, slice_get};
 ghost use Rattle.elf64_records.specs.FileHeader.{e_shnum};
 ghost use Rattle.elf64_records.specs.Symbols.{symbol_count};
 ghost use Rattle.object_set.specs.Files.{file_at};
 ghost use Rattle.object_set.specs.Refusals.{Answers};
+ghost use Rattle.object_set.specs.Symbols.{is_local};
 ghost use Rattle.symbol_table.specs.Text.{text_sections, text_number};
-ghost use Rattle.symbol_table.specs.Targets.{all_commons, definition_of, entry_place, resolve_refusal};
+ghost use Rattle.symbol_table.specs.Targets.{all_commons, definition_of, known_target, target_of, entry_place, resolve_refusal};
 
-use crate::claims::Claims;
+use crate::claims::{Claims, Stand};
 use crate::commons::number_commons;
 use crate::entry::find_entry;
-use crate::role::is_local;
-use crate::table::{Numbers, claims_at, tabulate};
-use crate::target::CodePlace;
-use crate::text::{Places, is_defined, is_text, number_sections, text_place};
+use crate::role::{is_local, is_weak};
+use crate::table::{Numbers, claims_at, common_number, tabulate};
+use crate::target::{CodePlace, Piece, Target};
+use crate::text::{Places, is_defined, is_text, moved, number_sections, own_target, text_place};
 use object_set::{ObjectSet, Refusal};
 use std::alloc::Global;
 use std::marker::Model;
@@ -161,6 +162,60 @@ impl<'a, 'b> Resolved<'a, 'b> {
             claims_at(self.set, &self.numbers, &self.claims, file, symbol)
                 .stand()
                 .definition()
+        }
+    }
+
+    /// Where the name of a symbol that other files see goes, moved by an addend.
+    fn named_target(&self, file: u32, symbol: u32, addend: i64) -> Option<Target>
+        requires file { file < length self.now.0 }
+        requires symbol { symbol < symbol_count (file_at self.now.0 file) }
+        requires known { is_local (file_at self.now.0 file) symbol ≡ false }
+        ensures { result ≡ known_target self.now.0 file symbol addend }
+    {
+        match claims_at(self.set, &self.numbers, &self.claims, file, symbol).stand() {
+            Stand::Definition(defining, number) => own_target(self.set, &self.places, defining, number, addend),
+            Stand::Common(_, _) => {
+                let number = common_number(self.set, &self.numbers, &self.shares, file, symbol);
+                Some(Target::Data {
+                    piece: Piece::Common(number),
+                    addend,
+                })
+            }
+            Stand::Nothing => {
+                if is_weak(self.set.view(file), symbol) { Some(Target::WeakNone(addend)) } else { None }
+            }
+        }
+    }
+
+    /// Where a symbol goes, moved by an addend, if it stands for anything.
+    fn find_target(&self, file: u32, symbol: u32, addend: i64) -> Option<Target>
+        requires file { file < length self.now.0 }
+        requires symbol { symbol < symbol_count (file_at self.now.0 file) }
+        ensures { result ≡ target_of self.now.0 file symbol addend }
+    {
+        let view = self.set.view(file);
+        if symbol == 0 {
+            Some(Target::Number(moved(0, addend)))
+        } else if view.symbol(symbol).name == TOC_BASE {
+            Some(Target::TocBase { file, addend })
+        } else if is_local(view, symbol) {
+            own_target(self.set, &self.places, file, symbol, addend)
+        } else {
+            self.named_target(file, symbol, addend)
+        }
+    }
+
+    /// Where a symbol goes, moved by an addend (ELF64, "Relocation": S + A). The symbol stands for something, is symbol 0 or `.TOC.`, or
+    /// is weak.
+    pub fn target(&self, file: u32, symbol: u32, addend: i64) -> Target
+        requires file { file < length self.now.0 }
+        requires symbol { symbol < symbol_count (file_at self.now.0 file) }
+        requires stands { IsSome (target_of self.now.0 file symbol addend) }
+        ensures { target_of self.now.0 file symbol addend ≡ Some result }
+    {
+        match self.find_target(file, symbol, addend) {
+            Some(target) => target,
+            None => Target::WeakNone(addend),
         }
     }
 }

@@ -3,7 +3,7 @@ ghost use Rattle.std.specs.Prelude.{◌≡◌, ◌<◌, None, length};
 ghost use Rattle.elf64_records.specs.Symbols.{symbol_count};
 ghost use Rattle.object_set.specs.Files.{file_at};
 ghost use Rattle.object_set.specs.Refusals.{set_refusal};
-ghost use Rattle.object_set.specs.Symbols.{is_local};
+ghost use Rattle.object_set.specs.Symbols.{is_local, is_weak};
 ghost use Rattle.object_set.specs.Sections.{is_kept_sort};
 ghost use Rattle.symbol_table.specs.Known.{role_of};
 
@@ -13,6 +13,8 @@ use object_set::{ObjectSet, Sort};
 const STB_LOCAL: u8 = 0;
 
 const STB_GLOBAL: u8 = 1;
+
+const STB_WEAK: u8 = 2;
 
 pub const SHN_LORESERVE: u16 = 0xFF00;
 
@@ -56,6 +58,14 @@ pub fn is_local(view: &ObjectView, j: u32) -> bool
     ensures { result ≡ is_local view.now j }
 {
     j == 0 || view.symbol(j).info >> 4 == STB_LOCAL
+}
+
+/// Whether a symbol is WEAK.
+pub fn is_weak(view: &ObjectView, j: u32) -> bool
+    requires { j < symbol_count view.now }
+    ensures { result ≡ is_weak view.now j }
+{
+    j != 0 && view.symbol(j).info >> 4 == STB_WEAK
 }
 
 /// What a symbol other than symbol 0 does for its name.

@@ -5,7 +5,7 @@ ghost use Rattle.object_set.specs.Files.{file_at};
 ghost use Rattle.object_set.specs.Refusals.{set_refusal, Answers};
 ghost use Rattle.object_set.specs.Symbols.{is_local, name_of};
 ghost use Rattle.symbol_table.specs.Known.{KnownSymbol, seen, known_in, Grows, AreNumbers, AreAllNumbers, known_symbols, names_of};
-ghost use Rattle.symbol_table.specs.Targets.{all_claims};
+ghost use Rattle.symbol_table.specs.Targets.{all_claims, common_number, AreShares};
 ghost use Rattle.symbol_table.specs.Names.{with_name};
 ghost use Rattle.symbol_table.specs.Claims.{table_of, claims_of, facts_of, unclaimed, duplicate_at, duplicates};
 
@@ -246,4 +246,17 @@ pub fn claims_at(
 {
     let number = name_number(set, numbers, file, j);
     claims[number]
+}
+
+/// The number of the common of the name of a symbol that other files see: how many names before it stand for a common.
+pub fn common_number(set: &ObjectSet, numbers: &[Numbers], shares: &[u64], file: u32, j: u32) -> u64
+    requires numbers { AreAllNumbers (names_of (known_symbols set.now)) set.now (length set.now) numbers.now }
+    requires shares { AreShares (all_claims set.now) (length (all_claims set.now)) shares.now }
+    requires file { file < length set.now }
+    requires within { j < symbol_count (file_at set.now file) }
+    requires known { is_local (file_at set.now file) j ≡ false }
+    ensures { result ≡ common_number set.now (name_of (file_at set.now file) j) }
+{
+    let number = name_number(set, numbers, file, j);
+    shares[number]
 }
