@@ -120,7 +120,7 @@ position_case : (name x : List ℕ) (names : List (List ℕ)) (k : ℕ) (b : Boo
 position_case name x names k b is none rest =
     let differs : bytes_eq name x ≡ false = is ∙ none in
     let step : position_or_len (bytes_eq name) (x ∷ names) ≡ 1 + position_or_len (bytes_eq name) names =
-        ap (λ (t : Bool). cond (not t) (1 + position_or_len (bytes_eq name) names) 0) differs in
+    ap (λ (t : Bool). cond (not t) (1 + position_or_len (bytes_eq name) names) 0) differs in
     omega (arith, step, rest)
 
 -- where each name stands once, a name's first place is its place

@@ -173,7 +173,13 @@ impl<'a, 'b> Resolved<'a, 'b> {
         ensures { result ≡ known_target self.now.0 file symbol addend }
     {
         match claims_at(self.set, &self.numbers, &self.claims, file, symbol).stand() {
-            Stand::Definition(defining, number) => own_target(self.set, &self.places, defining, number, addend),
+            Stand::Definition(defining, number) => own_target(
+                self.set,
+                &self.places,
+                defining,
+                number,
+                addend,
+            ),
             Stand::Common(_, _) => {
                 let number = common_number(self.set, &self.numbers, &self.shares, file, symbol);
                 Some(Target::Data {
@@ -182,7 +188,11 @@ impl<'a, 'b> Resolved<'a, 'b> {
                 })
             }
             Stand::Nothing => {
-                if is_weak(self.set.view(file), symbol) { Some(Target::WeakNone(addend)) } else { None }
+                if is_weak(self.set.view(file), symbol) {
+                    Some(Target::WeakNone(addend))
+                } else {
+                    None
+                }
             }
         }
     }

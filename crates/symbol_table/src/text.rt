@@ -191,7 +191,13 @@ pub fn moved(value: u64, addend: i64) -> u64
 }
 
 /// Where something at an offset of a section goes: to text or to data, or nowhere if the section isn't kept.
-fn section_target(set: &ObjectSet, places: &[Places], file: u32, section: u32, at: u64) -> Option<Target>
+fn section_target(
+    set: &ObjectSet,
+    places: &[Places],
+    file: u32,
+    section: u32,
+    at: u64,
+) -> Option<Target>
     requires places { AreAllPlaces set.now (length set.now) places.now }
     requires file { file < length set.now }
     requires section { section < e_shnum (file_at set.now file) }
@@ -211,7 +217,13 @@ fn section_target(set: &ObjectSet, places: &[Places], file: u32, section: u32, a
 }
 
 /// Where a symbol lies, moved by an addend.
-pub fn own_target(set: &ObjectSet, places: &[Places], file: u32, j: u32, addend: i64) -> Option<Target>
+pub fn own_target(
+    set: &ObjectSet,
+    places: &[Places],
+    file: u32,
+    j: u32,
+    addend: i64,
+) -> Option<Target>
     requires whole { set_refusal set.now ≡ None }
     requires places { AreAllPlaces set.now (length set.now) places.now }
     requires placed { IsPlaced set.now file j }

@@ -17,7 +17,7 @@ bounds-shares-number c =
     let set = c.args.set.now in
     let names = names_of (known_symbols set) in
     let within = slice_get_within names c.name_number-number.result (name_of (file_at set c.args.file) c.args.j) c.name_number-number.ensures in
-    let count = length-map (claims_of (known_symbols set)) names in
+    let count = length-map names (claims_of (known_symbols set)) in
     omega (arith, within, count, c.requires.shares.count)
 
 pub returns : goal.returns
@@ -26,7 +26,7 @@ returns c =
     let names = names_of (known_symbols set) in
     let name = name_of (file_at set c.args.file) c.args.j in
     let within = slice_get_within names c.name_number-number.result name c.name_number-number.ensures in
-    let count = length-map (claims_of (known_symbols set)) names in
+    let count = length-map names (claims_of (known_symbols set)) in
     let place = position_once names c.name_number-number.result name (once_names (known_symbols set)) c.name_number-number.ensures in
     let inside : c.name_number-number.result < length (all_claims set) = omega (arith, within, count) in
     c.requires.shares.each c.name_number-number.result inside ∙ ap (λ (k : ℕ). length (shared_before (all_claims set) k)) (sym place)
