@@ -1,5 +1,5 @@
 -- Names, each of which stands once.
-use Rattle.std.proofs.Common.{◌≡◌, ◌≢◌, ◌⊎◌, ℕ, ◌<◌, zero, suc, length-append, if◌then◌else◌, Bool, true, false, List, [], ◌∷◌, ◌++◌, ◌||◌, length, Option, Some, None, slice_get, slice_set, map, sym, ap, ◌∙◌, refl, arith, inl, inr}
+use Rattle.std.proofs.Common.{◌≡◌, ◌≢◌, ℕ, ◌<◌, zero, suc, length-append, if◌then◌else◌, Bool, true, false, List, [], ◌∷◌, ◌++◌, ◌||◌, length, Some, slice_get, slice_set, map, sym, ap, ◌∙◌, refl, arith}
 use Rattle.std.specs.List.{list_any, position_or_len}
 use Rattle.std.proofs.Common.{cond, not, ◌+◌}
 use Rattle.std.specs.Str.{bytes_eq}

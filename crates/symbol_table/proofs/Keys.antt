@@ -1,5 +1,5 @@
 -- Names, and the keys that refer to them.
-use Rattle.std.proofs.Common.{◌||◌, ◌≡◌, ℕ, zero, suc, ◌<◌, Bool, true, false, List, [], ◌∷◌, ◌++◌, length, Option, Some, None, MatchOption, slice_get, map, sym, ap, ◌∙◌, refl, arith, Bor}
+use Rattle.std.proofs.Common.{◌||◌, ◌≡◌, ℕ, zero, suc, Bool, true, List, [], ◌∷◌, ◌++◌, length, Some, slice_get, sym, ap, ◌∙◌, refl, arith, Bor}
 use Rattle.std.specs.List.{list_any}
 use Rattle.std.specs.Prelude.{position}
 use Rattle.std.proofs.Common.{inl, inr, ◌≤◌, get_or}

@@ -1,5 +1,5 @@
 -- The numbers of names.
-use Rattle.std.proofs.Common.{◌≡◌, ◌<◌, ◌≤◌, ℕ, ◌+◌, zero, suc, Bool, true, false, List, [], ◌∷◌, ◌++◌, length, length-append, Option, Some, None, slice_get, get_or, sym, ap, ◌∙◌, refl, arith, inl, inr, add-one, subst}
+use Rattle.std.proofs.Common.{◌≡◌, ◌<◌, ℕ, ◌+◌, zero, suc, false, List, [], ◌∷◌, ◌++◌, length, length-append, Some, slice_get, get_or, sym, ap, ◌∙◌, refl, arith, inl, inr, add-one, subst}
 use Rattle.std.specs.List.{slice_index_or}
 use Rattle.elf64_records.specs.Symbols.{symbol_count}
 use Rattle.object_set.specs.Files.{file_at}
@@ -7,7 +7,6 @@ use Rattle.std.proofs.lemmas.List.{append_assoc}
 use Rattle.std.proofs.lemmas.Bool.{cases_lt}
 use Rattle.object_set.specs.Symbols.{is_local, name_of}
 use Rattle.symbol_table.specs.Known.{KnownSymbol, known_in, seen, Grows, AreNumbers, AreAllNumbers}
-use Rattle.symbol_table.specs.Claims.{table_of}
 
 pub get_or_left : (xs ys : List ℕ) (k d : ℕ) → k < length xs → get_or (xs ++ ys) k d ≡ get_or xs k d
 get_or_left [] ys k d within = absurd (omega arith)

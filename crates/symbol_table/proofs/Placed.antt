@@ -1,12 +1,11 @@
 -- What a name stands for is a symbol of a file.
-use Rattle.std.proofs.Common.{◌≡◌, ◌<◌, ◌≤◌, ℕ, zero, suc, Bool, true, false, List, [], ◌∷◌, ◌++◌, ◌&&◌, length, Option, Some, None, slice_get, filter, sym, ap, ◌∙◌, refl, arith, inl, inr, subst, if◌then◌else◌}
+use Rattle.std.proofs.Common.{◌≡◌, ◌<◌, ◌≤◌, ℕ, zero, suc, Bool, true, false, List, [], ◌∷◌, ◌++◌, ◌&&◌, length, Option, Some, None, slice_get, filter, sym, ap, ◌∙◌, refl, arith, subst, if◌then◌else◌}
 use Rattle.std.specs.Str.{bytes_eq}
 use Rattle.std.specs.Option.{option_map}
 use Rattle.elf64_records.specs.Symbols.{symbol_count}
 use Rattle.object_set.specs.Files.{file_at}
 use Rattle.object_set.specs.Symbols.{is_local}
 use Rattle.symbol_table.specs.declared.role.Role.{Role}
-use Rattle.symbol_table.specs.declared.claims.Stand.{Stand}
 use Rattle.symbol_table.specs.declared.claims.Stand.TheVariants as stand
 use Rattle.symbol_table.specs.Targets.{IsPlaced}
 use Rattle.symbol_table.specs.Known.{KnownSymbol, known_symbol, known_in, known_before, known_symbols, seen}

@@ -1,5 +1,5 @@
 -- What a symbol more changes.
-use Rattle.std.proofs.Common.{◌≡◌, ◌≢◌, ◌⊎◌, ℕ, ◌<◌, zero, suc, ◌&&◌, Bool, true, false, List, [], ◌∷◌, ◌++◌, length, Option, Some, None, slice_get, slice_set, map, filter, max, sym, ap, ◌∙◌, refl, arith, inl, inr, if◌then◌else◌}
+use Rattle.std.proofs.Common.{◌≡◌, ℕ, suc, ◌&&◌, Bool, true, false, List, [], ◌∷◌, ◌++◌, Option, Some, slice_get, max, sym, ap, ◌∙◌, refl, arith, if◌then◌else◌}
 use Rattle.std.specs.List.{list_any}
 use Rattle.std.specs.Str.{bytes_eq}
 use Rattle.std.specs.Option.{option_map}
@@ -8,7 +8,7 @@ use Rattle.std.proofs.lemmas.List.Sums.{fold-append}
 use Rattle.std.proofs.Common.{◌||◌, fold}
 use Rattle.symbol_table.specs.Names.{with_name}
 use Rattle.symbol_table.proofs.Keys.{same_bytes}
-use Rattle.symbol_table.proofs.Distinct.{IsOnce, Empty, once_with_name, absent, or_false, changed}
+use Rattle.symbol_table.proofs.Distinct.{IsOnce, Empty, once_with_name, absent, or_false}
 use Rattle.symbol_table.specs.declared.role.Role.{Role}
 use Rattle.symbol_table.specs.declared.role.Role.TheVariants as role
 use Rattle.symbol_table.specs.declared.claims.Claims.{Claims}

@@ -1,6 +1,6 @@
 -- What a name stands for (ELF64, "Symbol Table": STB_GLOBAL, STB_WEAK and SHN_COMMON): its one GLOBAL definition; else the common, with
 -- the largest size and the largest alignment; else the first WEAK definition; else nothing.
-use Rattle.std.specs.Prelude.{ℕ, ◌-◌, Bool, true, false, List, [], ◌∷◌, ◌++◌, ◌&&◌, Option, Some, None, max, map, filter, length, slice_get, is_some, if◌then◌else◌}
+use Rattle.std.specs.Prelude.{ℕ, Bool, true, false, List, [], ◌∷◌, ◌&&◌, Option, Some, None, max, map, filter, length, slice_get, is_some, if◌then◌else◌}
 use Rattle.std.specs.List.{slice_index_or, list_any}
 use Rattle.std.specs.Option.{option_map}
 use Rattle.std.specs.Str.{bytes_eq}

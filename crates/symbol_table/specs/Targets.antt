@@ -8,13 +8,12 @@ use Rattle.object_set.specs.Files.{file_at}
 use Rattle.object_set.specs.Sections.{is_text, sort_of}
 use Rattle.object_set.specs.declared.sort.Sort.{Sort}
 use Rattle.object_set.specs.declared.sort.Sort.TheVariants.{Text, Zeroed, Toc, Writable, ReadOnly, Dropped}
-use Rattle.object_set.specs.Symbols.{name_of, is_local, is_weak, has_section, is_absolute, is_toc_base, index_of, lies_in_kept, lies_in_text}
+use Rattle.object_set.specs.Symbols.{name_of, is_local, is_weak, has_section, is_absolute, is_toc_base, index_of, lies_in_kept}
 use Rattle.object_set.specs.declared.refusal.Refusal.{Refusal}
 use Rattle.object_set.specs.declared.refusal.Refusal.TheVariants.{NoEntry, EntryNotCode}
 use Rattle.symbol_table.specs.declared.claims.Stand.{Stand}
 use Rattle.symbol_table.specs.declared.claims.Stand.TheVariants as stand
 use Rattle.symbol_table.specs.declared.target.CodePlace.{CodePlace}
-use Rattle.symbol_table.specs.declared.target.Piece.{Piece}
 use Rattle.symbol_table.specs.declared.target.Piece.TheVariants as piece
 use Rattle.symbol_table.specs.declared.target.Target.{Target}
 use Rattle.symbol_table.specs.declared.target.Target.TheVariants as target

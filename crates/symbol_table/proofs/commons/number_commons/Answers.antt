@@ -1,6 +1,5 @@
-use Rattle.std.proofs.Common.{◌≡◌, ◌<◌, length, arith, ap, List, ℕ, ◌+◌, ◌++◌, ◌∙◌, sym, subst}
-use Rattle.symbol_table.specs.Claims.{stand_of}
-use Rattle.symbol_table.specs.Targets.{shared, shared_before, common_at, AreShares}
+use Rattle.std.proofs.Common.{◌≡◌, ◌<◌, length, arith, ap, List, ℕ, ◌+◌, sym, subst}
+use Rattle.symbol_table.specs.Targets.{shared_before, AreShares}
 use Rattle.symbol_table.proofs.Shares.{shared_more, shares_more}
 use Rattle.symbol_table.proofs.commons.number_commons.Goals as goal
 

@@ -1,5 +1,4 @@
-use Rattle.std.proofs.Common.{sym, ap, ◌∙◌, ◌≡◌}
-use Rattle.symbol_table.specs.declared.claims.Stand.{Stand}
+use Rattle.std.proofs.Common.{sym, ◌∙◌}
 use Rattle.symbol_table.proofs.Placed.{definition_placed}
 use Rattle.symbol_table.proofs.entry.find_entry.Goals as goal
 

@@ -1,4 +1,4 @@
-use Rattle.std.proofs.Common.{◌≡◌, ◌<◌, Some, arith, length, ap, ◌∙◌, sym, slice_get, List, ℕ}
+use Rattle.std.proofs.Common.{◌≡◌, Some, ap, ◌∙◌, slice_get, List, ℕ}
 use Rattle.std.specs.Option.{option_map}
 use Rattle.std.proofs.lemmas.Option.{slice_get-map, slice_get_within, get_or_from_slice_get}
 use Rattle.object_set.specs.Files.{file_at}

@@ -1,4 +1,4 @@
-use Rattle.std.proofs.Common.{ap, List, ℕ, ◌+◌, ◌++◌, ◌∙◌, sym, subst, add-one}
+use Rattle.std.proofs.Common.{ap, List, ℕ, ◌+◌, ◌∙◌, sym, subst, add-one}
 use Rattle.symbol_table.specs.Known.{known_before, AreAllNumbers}
 use Rattle.symbol_table.specs.Claims.{table_of}
 use Rattle.symbol_table.proofs.Numbers.{all_numbers_more}

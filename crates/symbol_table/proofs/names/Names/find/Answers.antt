@@ -1,4 +1,4 @@
-use Rattle.std.proofs.Common.{sym, ap, ◌∙◌, Some, None, ◌≡◌, Option, ℕ, MatchOption, false, List, slice_get, Bool, Bor, refl}
+use Rattle.std.proofs.Common.{sym, ap, ◌∙◌, Some, None, ◌≡◌, Option, ℕ, MatchOption, false, List, slice_get, Bor}
 use Rattle.std.specs.Prelude.{position, is_some}
 use Rattle.std.specs.List.{list_any}
 use Rattle.std.specs.Str.{bytes_eq}

@@ -1,6 +1,6 @@
 use Rattle.std.proofs.Common.{sym, ap, ◌∙◌, Some}
 use Rattle.symbol_table.proofs.Keys.{get_named, named_insert, same_bytes}
-use Rattle.symbol_table.specs.Names.{named, with_name}
+use Rattle.symbol_table.specs.Names.{named}
 use Rattle.symbol_table.proofs.names.Names.number.Goals as goal
 
 pub returns-clause-names : goal.returns-clause-names
