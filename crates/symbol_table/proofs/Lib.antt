@@ -1,0 +1,8 @@
+pub mod Keys
+pub mod Distinct
+pub mod Steps
+pub mod Tables
+pub mod Numbers
+pub mod Texts
+pub mod Placed
+pub mod Shares

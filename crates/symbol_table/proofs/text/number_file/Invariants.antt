@@ -1,0 +1,11 @@
+use Rattle.std.proofs.Common.{◌≡◌, ◌++◌}
+use Rattle.object_set.specs.Files.{file_at}
+use Rattle.symbol_table.specs.Text.{text_before, text_in, ArePlaces}
+use Rattle.symbol_table.proofs.text.number_file.Given as goal
+
+-- the first sections of the file are numbered
+abbrev pub invariant-loop-section : goal.invariant-loop-section
+invariant-loop-section l = record {
+  texts : l.texts.items ≡ text_before l.set l.file ++ text_in l.file (file_at l.set l.file) l.section;
+  places : ArePlaces l.set l.file l.section l.items.items;
+}

@@ -1,0 +1,5 @@
+pub mod Names
+pub mod Known
+pub mod Claims
+pub mod Text
+pub mod Targets

@@ -1,0 +1,16 @@
+// What the names of the symbols of a link's files stand for (ELF64 object file format, "Symbol Table"; ELFv2 ABI, 3.4 "Symbol
+// Table"), which place a relocation record goes to, and where the program is entered. Names are compared as bytes.
+#![tactic(auto)]
+
+mod claims;
+mod commons;
+mod entry;
+mod names;
+mod resolved;
+mod role;
+mod table;
+mod target;
+mod text;
+
+pub use resolved::{Resolved, resolve};
+pub use target::{CodePlace, Piece, Target};
