@@ -14,3 +14,6 @@ mod text;
 
 pub use resolved::{Resolved, resolve};
 pub use target::{CodePlace, Piece, Target};
+
+#[cfg(test)]
+mod tests;
