@@ -1,4 +1,4 @@
-// What identifies a little-endian 64-bit Power file (ELF64 "ELF Identification", ELFv2 ABI, 4.1 "ELF Header").
+// What identifies a little-endian 64-bit Power file (ELF64 "ELF Identification", ELFv2 ABI, 3.1 "ELF Header").
 ghost use Rattle.std.specs.Prelude.{◌≤◌, ◌↔◌, IsTrue, length};
 ghost use Rattle.ppc_bytes.specs.Elf.{HasMagic, IsPpc64Le};
 
