@@ -13,8 +13,8 @@ mod view;
 
 pub use fault::{ElfFault, Place};
 pub use records::Rela;
-pub use sections::SectionView;
-pub use symbols::SymbolView;
+pub use sections::{SectionHeader, SectionView};
+pub use symbols::{SymbolEntry, SymbolView};
 pub use view::ObjectView;
 
 #[cfg(test)]

@@ -1,6 +1,7 @@
 // Names in string tables.
 ghost use Rattle.std.specs.Prelude.{◌≡◌, ◌≤◌, ◌==◌, length};
 ghost use Rattle.std.specs.List.{position, position_or_len};
+ghost use Rattle.std.specs.Str.{bytes_eq};
 ghost use Rattle.elf64_records.specs.Names.{IsZeroEnd, name_at};
 
 /// The name that begins at a place of a string table.
@@ -10,6 +11,17 @@ pub fn name_from(table: &[u8], start: usize) -> &[u8]
 {
     let rest = &table[start..];
     &rest[..length_to_zero(rest)]
+}
+
+/// Whether the name that begins at a place of a string table is this one. No more of the table is read than the name given is long,
+/// and a byte.
+pub fn is_named(table: &[u8], start: usize, name: &[u8]) -> bool
+    requires { start ≤ length table.now }
+    ensures { result ≡ bytes_eq (name_at table.now start) name.now }
+{
+    let rest = &table[start..];
+    let front = &rest[..(name.len() + 1).min(rest.len())];
+    &front[..length_to_zero(front)] == name
 }
 
 fn length_to_zero(bytes: &[u8]) -> usize

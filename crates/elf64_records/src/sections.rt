@@ -1,5 +1,6 @@
 // Sections: their bytes and their names.
 ghost use Rattle.std.specs.Prelude.{◌≡◌, ◌<◌, ◌≤◌, ◌+◌, ◌*◌, ◌/◌, IfOk, IsTrue, None, length};
+ghost use Rattle.std.specs.Str.{bytes_eq};
 ghost use Rattle.elf64_records.specs.First.{Refuses};
 ghost use Rattle.elf64_records.specs.Sections.{sh_offset, sh_size, has_bytes, section_bytes, section_names, section_of};
 ghost use Rattle.elf64_records.specs.Faults.{range_fault, name_fault, sections_fault, first_section};
@@ -7,7 +8,7 @@ ghost use Rattle.elf64_records.specs.Names.{IsZeroEnd};
 
 use crate::fault::{ElfFault, Place};
 use crate::headers::Headers;
-use crate::names::{name_from, zero_end};
+use crate::names::{is_named, name_from, zero_end};
 
 /// What a file says of one section.
 #[derive(Clone, Copy, Debug)]
@@ -28,6 +29,23 @@ pub struct SectionView<'a> {
     pub align: u64,
     /// The bytes in the file; empty for section 0, and for the types NULL and NOBITS.
     pub bytes: &'a [u8],
+}
+
+/// The numbers in a section's header that say what the section is.
+#[derive(Clone, Copy, Debug, PartialEq, Eq)]
+pub struct SectionHeader {
+    /// The type (sh_type).
+    pub kind: u32,
+    /// The flags (sh_flags).
+    pub flags: u64,
+    /// The size in bytes in memory (sh_size).
+    pub size: u64,
+    /// The section that this one is linked to (sh_link).
+    pub link: u32,
+    /// The further number, whose meaning depends on the type (sh_info).
+    pub info: u32,
+    /// The alignment in bytes, where 0 counts as 1 (sh_addralign).
+    pub align: u64,
 }
 
 /// The sections of a file, of which the bytes lie in the file and the names end.
@@ -73,15 +91,49 @@ impl<'a> Sections<'a> {
         ensures bytes { result.bytes.now ≡ (section_of self.now.headers.bytes.now i).bytes }
         ensures length { IsTrue (has_bytes self.now.headers.bytes.now i) → length result.bytes.now ≡ result.size }
     {
+        let header = self.header(i);
         SectionView {
             name: self.name(i),
+            kind: header.kind,
+            flags: header.flags,
+            size: header.size,
+            link: header.link,
+            info: header.info,
+            align: header.align,
+            bytes: self.bytes(i),
+        }
+    }
+
+    /// The header of section `i` of the file.
+    pub fn header(&self, i: u32) -> SectionHeader
+        requires { i < self.now.headers.count }
+        ensures kind { result.kind ≡ (section_of self.now.headers.bytes.now i).kind }
+        ensures flags { result.flags ≡ (section_of self.now.headers.bytes.now i).flags }
+        ensures size { result.size ≡ (section_of self.now.headers.bytes.now i).size }
+        ensures link { result.link ≡ (section_of self.now.headers.bytes.now i).link }
+        ensures info { result.info ≡ (section_of self.now.headers.bytes.now i).info }
+        ensures align { result.align ≡ (section_of self.now.headers.bytes.now i).align }
+    {
+        SectionHeader {
             kind: self.headers.stated_kind(i),
             flags: self.headers.flags(i),
             size: self.headers.size(i),
             link: self.headers.link(i),
             info: self.headers.info(i),
             align: self.headers.align(i),
-            bytes: self.bytes(i),
+        }
+    }
+
+    /// Whether a section has this name. That of section 0 is empty.
+    #[tactic(auto, using(crate::specs::Whole::name_in_table))]
+    pub fn is_named(&self, i: u32, name: &[u8]) -> bool
+        requires { i < self.now.headers.count }
+        ensures { result ≡ bytes_eq (section_of self.now.headers.bytes.now i).name name.now }
+    {
+        if i == 0 {
+            name.is_empty()
+        } else {
+            is_named(self.names, self.headers.name(i) as usize, name)
         }
     }
 

@@ -1,5 +1,6 @@
 // The symbol table.
 ghost use Rattle.std.specs.Prelude.{◌≡◌, ◌≢◌, ◌<◌, ◌≤◌, ◌+◌, ◌*◌, IfOk, IfSome, IsTrue, None, length};
+ghost use Rattle.std.specs.Str.{bytes_eq};
 ghost use Rattle.elf64_records.specs.First.{Refuses, first_from};
 ghost use Rattle.elf64_records.specs.Sections.{is_symbol_table, sh_offset, sh_link};
 ghost use Rattle.elf64_records.specs.Names.{IsZeroEnd};
@@ -8,7 +9,7 @@ ghost use Rattle.elf64_records.specs.Faults.{first_section, second_fault, symbol
 
 use crate::fault::{ElfFault, Place};
 use crate::headers::{Headers, SHT_STRTAB, SHT_SYMTAB};
-use crate::names::{name_from, zero_end};
+use crate::names::{is_named, name_from, zero_end};
 use crate::sections::Sections;
 use ppc_bytes::{half_at, long_at, word_at};
 
@@ -17,6 +18,21 @@ use ppc_bytes::{half_at, long_at, word_at};
 pub struct SymbolView<'a> {
     /// The name, without the zero byte that ends it.
     pub name: &'a [u8],
+    /// The binding in the high four bits and the type in the low four (st_info).
+    pub info: u8,
+    /// The other information: for a function, what its entry points are (st_other).
+    pub other: u8,
+    /// The section in which the symbol lies, or a special index (st_shndx).
+    pub shndx: u16,
+    /// The value: in a section the offset, of a common symbol the alignment (st_value).
+    pub value: u64,
+    /// The size in bytes (st_size).
+    pub size: u64,
+}
+
+/// A symbol's entry in the symbol table, but for the name.
+#[derive(Clone, Copy, Debug, PartialEq, Eq)]
+pub struct SymbolEntry {
     /// The binding in the high four bits and the type in the low four (st_info).
     pub info: u8,
     /// The other information: for a function, what its entry points are (st_other).
@@ -77,7 +93,6 @@ impl<'a> Symbols<'a> {
     }
 
     /// Symbol `j` of the file.
-    #[tactic(auto, unfolding(crate::specs::Symbols::st_info, crate::specs::Symbols::st_other, crate::specs::Symbols::st_shndx, crate::specs::Symbols::st_value, crate::specs::Symbols::st_size))]
     pub fn symbol(&self, j: u32) -> SymbolView<'a>
         requires { j < self.now.count }
         ensures name { result.name.now ≡ (symbol_of self.now.sections.headers.bytes.now j).name }
@@ -87,16 +102,45 @@ impl<'a> Symbols<'a> {
         ensures value { result.value ≡ (symbol_of self.now.sections.headers.bytes.now j).value }
         ensures size { result.size ≡ (symbol_of self.now.sections.headers.bytes.now j).size }
     {
-        let bytes = self.sections.headers.bytes;
-        let place = self.start + 24 * j as usize;
+        let entry = self.entry(j);
         SymbolView {
             name: self.name(j),
+            info: entry.info,
+            other: entry.other,
+            shndx: entry.shndx,
+            value: entry.value,
+            size: entry.size,
+        }
+    }
+
+    /// The entry of symbol `j` of the file.
+    #[tactic(auto, unfolding(crate::specs::Symbols::st_info, crate::specs::Symbols::st_other, crate::specs::Symbols::st_shndx, crate::specs::Symbols::st_value, crate::specs::Symbols::st_size))]
+    pub fn entry(&self, j: u32) -> SymbolEntry
+        requires { j < self.now.count }
+        ensures info { result.info ≡ (symbol_of self.now.sections.headers.bytes.now j).info }
+        ensures other { result.other ≡ (symbol_of self.now.sections.headers.bytes.now j).other }
+        ensures shndx { result.shndx ≡ (symbol_of self.now.sections.headers.bytes.now j).shndx }
+        ensures value { result.value ≡ (symbol_of self.now.sections.headers.bytes.now j).value }
+        ensures size { result.size ≡ (symbol_of self.now.sections.headers.bytes.now j).size }
+    {
+        let bytes = self.sections.headers.bytes;
+        let place = self.start + 24 * j as usize;
+        SymbolEntry {
             info: bytes[place + 4],
             other: bytes[place + 5],
             shndx: half_at(bytes, place + 6),
             value: long_at(bytes, place + 8),
             size: long_at(bytes, place + 16),
         }
+    }
+
+    /// Whether a symbol has this name.
+    #[tactic(auto, using(crate::specs::Whole::symbol_name_in_table))]
+    pub fn is_named(&self, j: u32, name: &[u8]) -> bool
+        requires { j < self.now.count }
+        ensures { result ≡ bytes_eq (symbol_of self.now.sections.headers.bytes.now j).name name.now }
+    {
+        is_named(self.names, self.name_place(j), name)
     }
 
     /// The name of a symbol.

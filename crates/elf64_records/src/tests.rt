@@ -1,7 +1,7 @@
 // The smallest object file, its parts, and what is said of files that differ from it in a number or two.
 ghost use Rattle.std.specs.Prelude.{◌≤◌, ◌≡◌, length};
 
-use crate::{ElfFault, ObjectView, Place, Rela};
+use crate::{ElfFault, ObjectView, Place, Rela, SymbolEntry};
 
 /// Bytes, and the place in a file where they stand.
 type Part = (u16, &'static [u8]);
@@ -126,6 +126,12 @@ fn the_sections_of_the_smallest_object_are_read(rt: HostRuntime) {
             *numbers,
             "section {i}"
         );
+        let h = view.section_header(i as u32);
+        assert_eq!(rt;
+            (h.kind, h.flags, h.size, h.link, h.info, h.align),
+            *numbers,
+            "the header of section {i}"
+        );
         assert_eq!(rt; view.record_count(i as u32), 0, "section {i}");
     }
     assert!(rt; view.section(0).name.is_empty() && view.section(0).bytes.is_empty());
@@ -148,6 +154,75 @@ fn the_symbols_of_the_smallest_object_are_read(rt: HostRuntime) {
     assert_eq!(rt; start.name, b"_start".as_slice());
     assert_eq!(rt; (start.info, start.other, start.shndx), (0x12, 0, 1));
     assert_eq!(rt; (start.value, start.size), (0, 12));
+}
+
+/// Symbol 1 is a common of other numbers.
+const COMMON: Part = (
+    104,
+    b"\x01\x00\x00\x00\x21\x62\xf2\xff\x08\x00\x00\x00\x00\x00\x00\x80\x18\x00\x00\x00\x00\x00\x00\x01",
+);
+
+#[test]
+fn the_entry_of_a_symbol_is_read_without_its_name(rt: HostRuntime) {
+    let b = smallest_with(&[COMMON]);
+    let view = ObjectView::read(smallest(&b)).expect(&rt, "an object file");
+    assert_eq!(rt; view.symbol_count(), 2);
+    let common = SymbolEntry {
+        info: 0x21,
+        other: 0x62,
+        shndx: 0xFFF2,
+        value: 0x8000_0000_0000_0008,
+        size: 0x0100_0000_0000_0018,
+    };
+    assert_eq!(rt; view.symbol_entry(1), common);
+}
+
+/// A symbol of the smallest file, a name, and whether the symbol has it.
+const SYMBOL_NAMES: [(u32, &[u8], bool); 9] = [
+    (1, b"_start", true),
+    (1, b"_star", false),
+    (1, b"_start_", false),
+    (1, b"_start\x00", false),
+    (1, b"_starT", false),
+    (1, b"-start", false),
+    (1, b"", false),
+    (0, b"", true),
+    (0, b"\x00", false),
+];
+
+/// The same of a section.
+const SECTION_NAMES: [(u32, &[u8], bool); 9] = [
+    (1, b".text", true),
+    (1, b".tex", false),
+    (1, b".text.hot", false),
+    (1, b".text\x00.symtab", false),
+    (1, b".toxt", false),
+    (4, b".shstrtab", true),
+    (4, b".shstrtab\x00.", false),
+    (0, b"", true),
+    (0, b".text", false),
+];
+
+#[test]
+fn names_are_the_same_where_all_their_bytes_are(rt: HostRuntime) {
+    let b = smallest_with(&[]);
+    let view = ObjectView::read(smallest(&b)).expect(&rt, "an object file");
+    for (j, name, same) in SYMBOL_NAMES.iter() {
+        assert!(rt; *j < view.symbol_count());
+        assert_eq!(rt;
+            view.symbol_is_named(*j, name),
+            *same,
+            "symbol {j}, {name:?}"
+        );
+    }
+    for (i, name, same) in SECTION_NAMES.iter() {
+        assert!(rt; *i < view.section_count());
+        assert_eq!(rt;
+            view.section_is_named(*i, name),
+            *same,
+            "section {i}, {name:?}"
+        );
+    }
 }
 
 #[test]

@@ -1,5 +1,6 @@
 // A relocatable file as a whole.
 ghost use Rattle.std.specs.Prelude.{◌≡◌, ◌<◌, ◌≤◌, IfOk, IsTrue, None, length};
+ghost use Rattle.std.specs.Str.{bytes_eq};
 ghost use Rattle.elf64_records.specs.First.{Refuses};
 ghost use Rattle.elf64_records.specs.FileHeader.{e_shnum};
 ghost use Rattle.elf64_records.specs.Sections.{has_bytes, section_of};
@@ -10,8 +11,8 @@ ghost use Rattle.elf64_records.specs.Faults.{object_fault};
 use crate::fault::ElfFault;
 use crate::headers::{Headers, SHT_RELA};
 use crate::records::{Rela, check_relas, record_at};
-use crate::sections::{SectionView, Sections};
-use crate::symbols::{SymbolView, Symbols};
+use crate::sections::{SectionHeader, SectionView, Sections};
+use crate::symbols::{SymbolEntry, SymbolView, Symbols};
 use std::marker::Model;
 
 /// A relocatable file that has none of the faults of `ElfFault`. It borrows the file's bytes, as which contracts see it, and each
@@ -70,6 +71,27 @@ impl<'a> ObjectView<'a> {
         self.symbols.sections.section(i)
     }
 
+    /// The numbers in the header of section `i`, in constant time: what `section` says but for the name and the bytes.
+    pub fn section_header(&self, i: u32) -> SectionHeader
+        requires { i < e_shnum self.now }
+        ensures kind { result.kind ≡ (section_of self.now i).kind }
+        ensures flags { result.flags ≡ (section_of self.now i).flags }
+        ensures size { result.size ≡ (section_of self.now i).size }
+        ensures link { result.link ≡ (section_of self.now i).link }
+        ensures info { result.info ≡ (section_of self.now i).info }
+        ensures align { result.align ≡ (section_of self.now i).align }
+    {
+        self.symbols.sections.header(i)
+    }
+
+    /// Whether section `i` has this name. The name of section 0 is empty. It takes no longer for a longer name in the file.
+    pub fn section_is_named(&self, i: u32, name: &[u8]) -> bool
+        requires { i < e_shnum self.now }
+        ensures { result ≡ bytes_eq (section_of self.now i).name name.now }
+    {
+        self.symbols.sections.is_named(i, name)
+    }
+
     /// The number of symbols, symbol 0 among them; 0 where the file has no symbol table.
     pub fn symbol_count(&self) -> u32
         ensures { result ≡ symbol_count self.now }
@@ -88,6 +110,26 @@ impl<'a> ObjectView<'a> {
         ensures size { result.size ≡ (symbol_of self.now j).size }
     {
         self.symbols.symbol(j)
+    }
+
+    /// The entry of symbol `j`, in constant time: what `symbol` says but for the name.
+    pub fn symbol_entry(&self, j: u32) -> SymbolEntry
+        requires { j < symbol_count self.now }
+        ensures info { result.info ≡ (symbol_of self.now j).info }
+        ensures other { result.other ≡ (symbol_of self.now j).other }
+        ensures shndx { result.shndx ≡ (symbol_of self.now j).shndx }
+        ensures value { result.value ≡ (symbol_of self.now j).value }
+        ensures size { result.size ≡ (symbol_of self.now j).size }
+    {
+        self.symbols.entry(j)
+    }
+
+    /// Whether symbol `j` has this name. It takes no longer for a longer name in the file.
+    pub fn symbol_is_named(&self, j: u32, name: &[u8]) -> bool
+        requires { j < symbol_count self.now }
+        ensures { result ≡ bytes_eq (symbol_of self.now j).name name.now }
+    {
+        self.symbols.is_named(j, name)
     }
 
     /// The number of records in section `i`: 0 where it holds no relocation records with addends, or those of a section that
