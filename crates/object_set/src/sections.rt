@@ -56,24 +56,24 @@ fn check_kept(file: u32, view: &ObjectView, i: u32) -> Result<(), Refusal>
     requires { i < e_shnum view.now }
     ensures { Refuses result (kept_refusal file view.now i) }
 {
-    let section = view.section(i);
-    if !has_kept_type(section.kind) {
+    let header = view.section_header(i);
+    if !has_kept_type(header.kind) {
         return Err(Refusal::BadSection(file, i));
     }
-    if section.flags & SHF_COMPRESSED != 0 {
+    if header.flags & SHF_COMPRESSED != 0 {
         return Err(Refusal::Unsupported(file, Place::Section(i)));
     }
-    let text = section.flags & SHF_EXECINSTR != 0;
-    let written = section.flags & SHF_WRITE != 0;
-    if text && (written || section.kind == SHT_NOBITS || section.size % 4 != 0) {
+    let text = header.flags & SHF_EXECINSTR != 0;
+    let written = header.flags & SHF_WRITE != 0;
+    if text && (written || header.kind == SHT_NOBITS || header.size % 4 != 0) {
         return Err(Refusal::BadSection(file, i));
     }
-    let toc = section.name == TOC;
-    if toc && (text || section.kind != SHT_PROGBITS) {
+    let toc = view.section_is_named(i, TOC);
+    if toc && (text || header.kind != SHT_PROGBITS) {
         return Err(Refusal::BadSection(file, i));
     }
     let limit = if toc { TOC_ALIGN_LIMIT } else { ALIGN_LIMIT };
-    if section.align != 0 && !is_power_up_to(limit, section.align) {
+    if header.align != 0 && !is_power_up_to(limit, header.align) {
         return Err(Refusal::BadAlign(file, Place::Section(i)));
     }
     Ok(())
@@ -95,14 +95,14 @@ fn check_section(file: u32, view: &ObjectView, i: u32) -> Result<(), Refusal>
     requires { i < e_shnum view.now }
     ensures { Refuses result (section_refusal file view.now i) }
 {
-    let section = view.section(i);
-    if matches!(section.kind, SHT_REL | SHT_GROUP | SHT_SYMTAB_SHNDX) {
+    let header = view.section_header(i);
+    if matches!(header.kind, SHT_REL | SHT_GROUP | SHT_SYMTAB_SHNDX) {
         return Err(Refusal::Unsupported(file, Place::Section(i)));
     }
-    if i == 0 || section.flags & SHF_ALLOC == 0 {
+    if i == 0 || header.flags & SHF_ALLOC == 0 {
         return Ok(());
     }
-    if section.flags & SHF_TLS != 0 {
+    if header.flags & SHF_TLS != 0 {
         return Err(Refusal::Tls(file, Place::Section(i)));
     }
     check_kept(file, view, i)

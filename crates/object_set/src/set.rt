@@ -127,6 +127,6 @@ impl<'a> ObjectSet<'a> {
             Sort::Text => 4,
             _ => 1,
         };
-        self.view(file).section(section).align.max(least)
+        self.view(file).section_header(section).align.max(least)
     }
 }

@@ -29,16 +29,16 @@ pub fn sort_of(view: &ObjectView, i: u32) -> Sort
     requires { i < e_shnum view.now }
     ensures { result ≡ sort_of view.now i }
 {
-    let section = view.section(i);
-    if i == 0 || section.flags & SHF_ALLOC == 0 {
+    let header = view.section_header(i);
+    if i == 0 || header.flags & SHF_ALLOC == 0 {
         Sort::Dropped
-    } else if section.flags & SHF_EXECINSTR != 0 {
+    } else if header.flags & SHF_EXECINSTR != 0 {
         Sort::Text
-    } else if section.kind == SHT_NOBITS {
+    } else if header.kind == SHT_NOBITS {
         Sort::Zeroed
-    } else if section.name == TOC {
+    } else if view.section_is_named(i, TOC) {
         Sort::Toc
-    } else if section.flags & SHF_WRITE != 0 {
+    } else if header.flags & SHF_WRITE != 0 {
         Sort::Writable
     } else {
         Sort::ReadOnly

@@ -43,7 +43,7 @@ fn check_symbol(file: u32, view: &ObjectView, j: u32) -> Result<(), Refusal>
     requires within { j < symbol_count view.now }
     ensures { Refuses result (symbol_refusal file view.now j) }
 {
-    let symbol = view.symbol(j);
+    let symbol = view.symbol_entry(j);
     let (binding, kind) = (symbol.info >> 4, symbol.info & 0xF);
     if kind == STT_TLS {
         return Err(Refusal::Tls(file, Place::Symbol(j)));
@@ -55,7 +55,8 @@ fn check_symbol(file: u32, view: &ObjectView, j: u32) -> Result<(), Refusal>
         return Err(Refusal::BadSymbol(file, j));
     }
     let common = symbol.shndx == SHN_COMMON;
-    if (symbol.name == TOC_BASE && symbol.shndx != SHN_UNDEF) || (binding == STB_LOCAL && common) {
+    let toc_base = view.symbol_is_named(j, TOC_BASE);
+    if (toc_base && symbol.shndx != SHN_UNDEF) || (binding == STB_LOCAL && common) {
         return Err(Refusal::BadSymbol(file, j));
     }
     if common && !is_power_up_to(ALIGN_LIMIT, symbol.value) {
@@ -110,12 +111,12 @@ fn check_value(file: u32, view: &ObjectView, j: u32) -> Result<(), Refusal>
     requires fit { symbol_refusal file view.now j ≡ None }
     ensures { Refuses result (value_refusal file view.now j) }
 {
-    let symbol = view.symbol(j);
+    let symbol = view.symbol_entry(j);
     if symbol.shndx >= SHN_LORESERVE {
         return Ok(());
     }
     let section = u32::from(symbol.shndx);
-    let size = view.section(section).size;
+    let size = view.section_header(section).size;
     let fits = match sort_of(view, section) {
         Sort::Dropped => true,
         Sort::Text => symbol.value <= size && has_entries(symbol.other >> 5, symbol.value, size),
