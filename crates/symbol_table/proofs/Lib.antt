@@ -4,5 +4,4 @@ pub mod Steps
 pub mod Tables
 pub mod Numbers
 pub mod Texts
-pub mod Placed
 pub mod Shares

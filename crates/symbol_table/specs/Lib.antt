@@ -3,3 +3,5 @@ pub mod Known
 pub mod Claims
 pub mod Text
 pub mod Targets
+pub mod Definitions
+pub mod Laws

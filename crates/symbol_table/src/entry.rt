@@ -6,10 +6,10 @@ ghost use Rattle.symbol_table.specs.Text.{AreAllPlaces};
 ghost use Rattle.symbol_table.specs.Targets.{entry_refusal, entry_place};
 
 use crate::claims::Stand;
+use crate::names::owned;
 use crate::target::CodePlace;
 use crate::text::{Places, instruction};
 use object_set::{ObjectSet, Refusal};
-use ppc_bytes::Bytes;
 use std::alloc::Global;
 
 /// The place of the entry, or its refusal: nothing has its name, or what the name stands for is no instruction.
@@ -26,13 +26,12 @@ pub fn find_entry(
     ensures refusal { Answers result (entry_refusal set.now entry.now) }
     ensures place { IfOk result (λ p. p ≡ entry_place set.now entry.now) }
 {
-    let name = Bytes::of(Vec::from_slice(alloc, entry)?);
     match stand {
         Stand::Definition(file, number) => match instruction(set, places, file, number) {
             Some(place) => Ok(place),
-            None => Err(Refusal::EntryNotCode(name)),
+            None => Err(Refusal::EntryNotCode(owned(alloc, entry)?)),
         },
-        Stand::Common(_, _) => Err(Refusal::EntryNotCode(name)),
-        Stand::Nothing => Err(Refusal::NoEntry(name)),
+        Stand::Common(_, _) => Err(Refusal::EntryNotCode(owned(alloc, entry)?)),
+        Stand::Nothing => Err(Refusal::NoEntry(owned(alloc, entry)?)),
     }
 }

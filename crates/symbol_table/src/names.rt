@@ -5,7 +5,8 @@ ghost use Rattle.std.specs.Str.{bytes_eq};
 ghost use Rattle.symbol_table.specs.Names.{with_name};
 
 use indexmap::IndexSet;
-use std::alloc::{AllocFailed, Global};
+use ppc_bytes::Bytes;
+use std::alloc::{AllocError, AllocFailed, Global};
 use std::marker::Model;
 
 /// Names, each once, in the order in which they are first seen. Contracts see the list of them.
@@ -63,4 +64,11 @@ impl<'a> Names<'a> {
             None => &[],
         }
     }
+}
+
+/// A copy of a name, for a refusal.
+pub fn owned(alloc: Global, name: &[u8]) -> Result<Bytes, AllocError>
+    ensures { IfOk result (λ bytes. bytes ≡ name.now) }
+{
+    Ok(Bytes::of(Vec::from_slice(alloc, name)?))
 }

@@ -150,7 +150,7 @@ impl<'a, 'b> Resolved<'a, 'b> {
         ensures { result ≡ definition_of self.now.0 file symbol }
     {
         let view = self.set.view(file);
-        if symbol == 0 || view.symbol(symbol).name == TOC_BASE {
+        if symbol == 0 || view.symbol_is_named(symbol, TOC_BASE) {
             None
         } else if is_local(view, symbol) {
             if is_defined(self.set, file, symbol) {
@@ -198,7 +198,7 @@ impl<'a, 'b> Resolved<'a, 'b> {
     }
 
     /// Where a symbol goes, moved by an addend, if it stands for anything.
-    fn find_target(&self, file: u32, symbol: u32, addend: i64) -> Option<Target>
+    pub(crate) fn find_target(&self, file: u32, symbol: u32, addend: i64) -> Option<Target>
         requires file { file < length self.now.0 }
         requires symbol { symbol < symbol_count (file_at self.now.0 file) }
         ensures { result ≡ target_of self.now.0 file symbol addend }
@@ -206,7 +206,7 @@ impl<'a, 'b> Resolved<'a, 'b> {
         let view = self.set.view(file);
         if symbol == 0 {
             Some(Target::Number(moved(0, addend)))
-        } else if view.symbol(symbol).name == TOC_BASE {
+        } else if view.symbol_is_named(symbol, TOC_BASE) {
             Some(Target::TocBase { file, addend })
         } else if is_local(view, symbol) {
             own_target(self.set, &self.places, file, symbol, addend)

@@ -57,7 +57,7 @@ pub fn is_local(view: &ObjectView, j: u32) -> bool
     requires { j < symbol_count view.now }
     ensures { result ≡ is_local view.now j }
 {
-    j == 0 || view.symbol(j).info >> 4 == STB_LOCAL
+    j == 0 || view.symbol_entry(j).info >> 4 == STB_LOCAL
 }
 
 /// Whether a symbol is WEAK.
@@ -65,7 +65,7 @@ pub fn is_weak(view: &ObjectView, j: u32) -> bool
     requires { j < symbol_count view.now }
     ensures { result ≡ is_weak view.now j }
 {
-    j != 0 && view.symbol(j).info >> 4 == STB_WEAK
+    j != 0 && view.symbol_entry(j).info >> 4 == STB_WEAK
 }
 
 /// What a symbol other than symbol 0 does for its name.
@@ -77,7 +77,7 @@ pub fn role_of(set: &ObjectSet, file: u32, j: u32) -> Role
     requires within { j < symbol_count (file_at set.now file) }
     ensures { result ≡ role_of (file_at set.now file) j }
 {
-    let symbol = set.view(file).symbol(j);
+    let symbol = set.view(file).symbol_entry(j);
     let defines = match symbol.shndx {
         SHN_COMMON => return Role::Common,
         SHN_ABS => true,

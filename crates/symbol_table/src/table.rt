@@ -10,10 +10,9 @@ ghost use Rattle.symbol_table.specs.Names.{with_name};
 ghost use Rattle.symbol_table.specs.Claims.{table_of, claims_of, facts_of, unclaimed, duplicate_at, duplicates};
 
 use crate::claims::Claims;
-use crate::names::Names;
+use crate::names::{Names, owned};
 use crate::role::{Known, is_local, role_of};
 use object_set::{ObjectSet, Refusal};
-use ppc_bytes::Bytes;
 use std::alloc::{AllocError, Global};
 use std::marker::Model;
 
@@ -73,7 +72,7 @@ impl<'a> Table<'a> {
         let claims = self.claims[i];
         match (claims.global, claims.second) {
             (Some((first, _)), Some(second)) => {
-                let name = Bytes::of(Vec::from_slice(alloc, self.names.get(i))?);
+                let name = owned(alloc, self.names.get(i))?;
                 Err(Refusal::Duplicate(name, first, second))
             }
             _ => Ok(()),

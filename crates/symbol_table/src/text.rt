@@ -130,7 +130,7 @@ pub fn section_of(set: &ObjectSet, file: u32, j: u32) -> Option<u32>
     ensures section { result ≡ section_index (file_at set.now file) j }
     ensures within { IfSome result (λ i. i < e_shnum (file_at set.now file)) }
 {
-    let symbol = set.view(file).symbol(j);
+    let symbol = set.view(file).symbol_entry(j);
     if symbol.shndx < SHN_LORESERVE {
         Some(u32::from(symbol.shndx))
     } else {
@@ -144,7 +144,9 @@ fn is_instruction(set: &ObjectSet, file: u32, section: u32, offset: u64) -> bool
     requires section { section < e_shnum (file_at set.now file) }
     ensures { result ≡ is_instruction (file_at set.now file) section offset }
 {
-    is_text(set, file, section) && offset % 4 == 0 && offset < set.view(file).section(section).size
+    is_text(set, file, section)
+        && offset % 4 == 0
+        && offset < set.view(file).section_header(section).size
 }
 
 /// The place of a symbol that is an instruction.
@@ -154,7 +156,7 @@ pub fn instruction(set: &ObjectSet, places: &[Places], file: u32, j: u32) -> Opt
     requires placed { IsPlaced set.now file j }
     ensures { result ≡ instruction_at set.now file j }
 {
-    let offset = set.view(file).symbol(j).value;
+    let offset = set.view(file).symbol_entry(j).value;
     match section_of(set, file, j) {
         Some(section) => {
             if is_instruction(set, file, section, offset) {
@@ -174,7 +176,7 @@ pub fn is_defined(set: &ObjectSet, file: u32, j: u32) -> bool
     requires placed { IsPlaced set.now file j }
     ensures { result ≡ is_defined (file_at set.now file) j }
 {
-    if set.view(file).symbol(j).shndx == SHN_ABS {
+    if set.view(file).symbol_entry(j).shndx == SHN_ABS {
         return true;
     }
     match section_of(set, file, j) {
@@ -229,7 +231,7 @@ pub fn own_target(
     requires placed { IsPlaced set.now file j }
     ensures { result ≡ own_target set.now file j addend }
 {
-    let symbol = set.view(file).symbol(j);
+    let symbol = set.view(file).symbol_entry(j);
     let at = moved(symbol.value, addend);
     if symbol.shndx == SHN_ABS {
         return Some(Target::Number(at));

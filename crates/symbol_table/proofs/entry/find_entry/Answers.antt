@@ -1,5 +1,5 @@
 use Rattle.std.proofs.Common.{sym, ◌∙◌}
-use Rattle.symbol_table.proofs.Placed.{definition_placed}
+use Rattle.symbol_table.specs.Definitions.{definition_placed}
 use Rattle.symbol_table.proofs.entry.find_entry.Goals as goal
 
 pub instruction-requires-clause-placed : goal.instruction-requires-clause-placed

@@ -2,7 +2,7 @@ use Rattle.std.proofs.Common.{sym, ap, ◌∙◌}
 use Rattle.object_set.specs.Files.{file_at}
 use Rattle.object_set.specs.Symbols.{name_of}
 use Rattle.symbol_table.specs.Claims.{stand_of}
-use Rattle.symbol_table.proofs.Placed.{definition_placed}
+use Rattle.symbol_table.specs.Definitions.{definition_placed}
 use Rattle.symbol_table.proofs.resolved.Resolved.named_target.Goals as goal
 
 pub own_target-requires-clause-placed : goal.own_target-requires-clause-placed
