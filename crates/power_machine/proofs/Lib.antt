@@ -1,3 +1,5 @@
+mod Opcodes
+mod Answering
 pub mod Places
 pub mod Stepping
 pub mod Regions

@@ -1,15 +1,12 @@
 -- One step, and what it keeps.
-use Rattle.std.proofs.Common.{◌≡◌, ℕ, Option, Some, None, List, [], ◌∷◌, Bool, true, false, cond, refl, sym, ap, ◌∙◌, subst}
+use Rattle.std.proofs.Common.{◌≡◌, ℕ, Option, Some, None, List, [], ◌∷◌, Bool, true, false, cond, refl, sym, subst}
 use Rattle.std.proofs.lemmas.List.{append-nil}
-use Rattle.power_insns.specs.Laws.{one_word}
-use Rattle.prefixed_insns.specs.Laws.{one_pair}
 use Rattle.power_machine.specs.declared.code.Code.{Code}
 use Rattle.power_machine.specs.declared.code.Code.TheVariants.{Unfetched, Unknown, OneWord, TwoWords}
 use Rattle.std.specs.Prelude.{◌==◌, ◌||◌}
 use Rattle.power_machine.specs.declared.memory.Access.TheVariants.{Loading, Storing}
 use Rattle.power_machine.specs.declared.reason.Reason.TheVariants as why
 use Rattle.power_machine.specs.Memory.{Range, allows}
-use Rattle.power_machine.specs.Codes.{Stands}
 use Rattle.power_machine.specs.Calls.{Run, Stepped, Goes, Ends, Leaves}
 use Rattle.power_machine.specs.Steps.{StepsOn, IsStep, step_over, Made, Performs, Grows, run_after, next_of, operates, is_call}
 use Rattle.power_machine.specs.Calls.{calls, call_number, exits, reads, writes, address_of, length_of, after_read, after_write, first_answer, event_of, read_bytes, written_bytes}
@@ -20,37 +17,6 @@ use Rattle.power_machine.specs.declared.machine.StepOutcome.TheVariants as outco
 use Rattle.power_insns.specs.declared.meaning.Operation.{Operation}
 use Rattle.power_insns.specs.Operations.{operation_of}
 use Rattle.prefixed_insns.specs.Meaning.{operation_of_pair}
-
-both : (b : Bool) → b ≡ true → b ≡ false → ⊥
-both true e f = cc
-both false e f = cc
-
--- exactly one thing stands at an address
-pub one_code : (ranges : List Range) (byte : ℕ → ℕ) (at : ℕ) (c d : Code) → Stands ranges byte at c → Stands ranges byte at d → c ≡ d
-one_code ranges byte at Unfetched Unfetched h k = refl
-one_code ranges byte at Unfetched Unknown h k = absurd (both _ k.0 h)
-one_code ranges byte at Unfetched (OneWord j) h k = absurd (both _ k.0 h)
-one_code ranges byte at Unfetched (TwoWords j) h k = absurd (both _ k.0 h)
-one_code ranges byte at Unknown Unfetched h k = absurd (both _ h.0 k)
-one_code ranges byte at Unknown Unknown h k = refl
-one_code ranges byte at Unknown (OneWord j) h k = absurd (h.1 j k.1)
-one_code ranges byte at Unknown (TwoWords j) h k = absurd (h.2 j k.2 k.3)
-one_code ranges byte at (OneWord i) Unfetched h k = absurd (both _ h.0 k)
-one_code ranges byte at (OneWord i) Unknown h k = absurd (k.1 i h.1)
-one_code ranges byte at (OneWord i) (OneWord j) h k = ap OneWord (one_word i j h.1.0 k.1.0 (h.1.1 ∙ sym k.1.1))
-one_code ranges byte at (OneWord i) (TwoWords j) h k = absurd (k.1 i h.1)
-one_code ranges byte at (TwoWords i) Unfetched h k = absurd (both _ h.0 k)
-one_code ranges byte at (TwoWords i) Unknown h k = absurd (k.2 i h.2 h.3)
-one_code ranges byte at (TwoWords i) (OneWord j) h k = absurd (h.1 j k.1)
-one_code ranges byte at (TwoWords i) (TwoWords j) h k = ap TwoWords (one_pair i j h.3.0 k.3.0 (h.3.1 ∙ sym k.3.1) (h.3.2 ∙ sym k.3.2))
-
-one_on : (ranges : List Range) (r : Run) (o : Option ℕ) (s t : Stepped) → StepsOn ranges r o s → StepsOn ranges r o t → s ≡ t
-one_on ranges r (Some status) s t h k = h ∙ sym k
-one_on ranges r None s t h k = h.is ∙ ap (step_over ranges r) (one_code ranges r.state.byte r.state.at h.code k.code h.stands k.stands) ∙ sym k.is
-
--- a run has one step
-pub one_step : (ranges : List Range) (r : Run) (s t : Stepped) → IsStep ranges r s → IsStep ranges r t → s ≡ t
-one_step ranges r s t h k = one_on ranges r r.ended s t h k
 
 -- a step of a run that has ended
 pub ended_step : (ranges : List Range) (r : Run) (s : Stepped) (status : ℕ) → r.ended ≡ Some status → IsStep ranges r s → s ≡ Ends status r

@@ -6,3 +6,10 @@ pub mod Codes
 pub mod Calls
 pub mod Steps
 pub mod Start
+pub mod Laws
+pub mod Related
+pub mod Simulation
+pub mod Induction
+pub mod Running
+pub mod Kept
+pub mod Window

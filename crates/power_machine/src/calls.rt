@@ -1,7 +1,7 @@
 // System calls.
 ghost use Rattle.std.specs.Prelude.{◌≡◌, ◌<◌, ◌≤◌, ◌+◌, ◌%◌, ◌||◌, ◌==◌, ℕ, List, Some, None, length};
 ghost use Rattle.power_machine.specs.Memory.{byte_at};
-ghost use Rattle.power_machine.specs.Calls.{calls, reads, writes, exits, after_call};
+ghost use Rattle.power_machine.specs.Calls.{calls, reads, writes, exits, after_call, event_of};
 ghost use Rattle.power_machine.specs.Numbers.{core_ranges, state_of};
 ghost use Rattle.power_machine.specs.Steps.{run_of, machine_ranges, Performs};
 
@@ -13,6 +13,20 @@ use crate::world::{Answer, Event, World};
 use ppc_bytes::Bytes;
 
 impl Core {
+    // What is recorded of a call with this number, where these bytes came or went.
+    fn event(&self, number: u64, answer: Answer, bytes: Bytes) -> Event
+        ensures { result ≡ event_of number (state_of self.now) answer bytes }
+    {
+        Event {
+            number,
+            fd: self.registers[3],
+            address: self.registers[4],
+            length: self.registers[5],
+            bytes,
+            error: answer.error(),
+        }
+    }
+
     // After a call that was answered, where so many bytes came or went.
     fn called(&mut self, answer: Answer, count: u64)
         ensures state { state_of self.new ≡ after_call (state_of self.old) answer count (byte_at self.old.memory.regions.items) }
@@ -52,14 +66,7 @@ impl Machine {
         let Ok(copy) = Vec::from_slice(self.alloc, bytes) else {
             return StepOutcome::Memory;
         };
-        let event = Event {
-            number: 3,
-            fd: self.core.registers[3],
-            address,
-            length,
-            bytes: Bytes::of(copy),
-            error: answer.error(),
-        };
+        let event = self.core.event(3, answer, Bytes::of(copy));
         if self.events.push(event).is_err() {
             return StepOutcome::Memory;
         }
@@ -83,14 +90,7 @@ impl Machine {
             Ok(None) => return StepOutcome::Left(Reason::Load, self.core.at),
             Err(_) => return StepOutcome::Memory,
         };
-        let event = Event {
-            number: 4,
-            fd: self.core.registers[3],
-            address,
-            length,
-            bytes,
-            error: answer.error(),
-        };
+        let event = self.core.event(4, answer, bytes);
         if self.events.push(event).is_err() {
             return StepOutcome::Memory;
         }

@@ -13,10 +13,20 @@ mod reason;
 mod state;
 mod world;
 
-pub use laws::{ended_stays_ended, events_only_grow, leaves_change_nothing, steps_are_one};
+pub use laws::{
+    ended_stays_ended, events_only_grow, leaves_change_nothing, loads_move_before,
+    no_word_begins_a_pair, operations_keep_the_rest, runs_are_one, steps_are_one, steps_are_runs,
+    stores_move_before,
+};
 pub use machine::{Machine, Outcome, StepOutcome};
 pub use reason::Reason;
 pub use world::{Answer, Event, World};
 
+#[cfg(test)]
+mod call_tests;
+#[cfg(test)]
+mod insn_tests;
+#[cfg(test)]
+mod test_programs;
 #[cfg(test)]
 mod tests;

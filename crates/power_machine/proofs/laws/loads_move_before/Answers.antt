@@ -1,0 +1,5 @@
+use Rattle.power_machine.specs.Window.{load_moves_before}
+use Rattle.power_machine.proofs.laws.loads_move_before.Goals as goal
+
+pub returns : goal.returns
+returns c = load_moves_before

@@ -1,0 +1,5 @@
+use Rattle.power_machine.specs.Window.{store_moves_before}
+use Rattle.power_machine.proofs.laws.stores_move_before.Goals as goal
+
+pub returns : goal.returns
+returns c = store_moves_before
