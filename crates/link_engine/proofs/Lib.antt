@@ -1,1 +1,1 @@
-pub mod OneFile
+pub mod OnlyText

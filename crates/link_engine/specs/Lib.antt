@@ -1,2 +1,2 @@
-pub mod Thin
+pub mod Stage
 pub mod Link

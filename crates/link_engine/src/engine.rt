@@ -1,19 +1,18 @@
-// One thin file becomes an executable.
-ghost use Rattle.std.specs.Prelude.{◌≡◌, ◌⊎◌, ◌≤◌, ◌<◌, [], ◌∷◌, length, Some, None, IfOk, IfErr, OnOk};
+// Files become an executable.
+ghost use Rattle.std.specs.Prelude.{◌≡◌, ◌⊎◌, ◌≤◌, ◌<◌, length, Some, None, IfOk, IfErr, OnOk};
 ghost use Rattle.object_set.specs.Files.{contents_of};
-ghost use Rattle.link_engine.specs.Link.{InRange, first_refusal, file_refusal, image_of, image_at};
-ghost use Rattle.link_engine.specs.Thin.{start_offset, text_of};
+ghost use Rattle.object_set.specs.Refusals.{Answers, set_refusal};
+ghost use Rattle.link_engine.specs.Stage.{not_built, text_of, IsEntered};
+ghost use Rattle.link_engine.specs.Link.{InRange, entry_of, first_refusal, image_of, image_at};
 
 use crate::files::{Linked, Options};
-use crate::thin::{Program, thin_program};
+use crate::stage::check_built;
 use elf64_exec::{Segment, Segments, write_exec};
-use object_set::{FileBytes, Refusal};
-use ppc_bytes::{Bytes, Memory, Steps, has_magic};
+use object_set::{FileBytes, ObjectSet, Refusal};
+use ppc_bytes::{Bytes, Memory, Steps};
 use std::alloc::Global;
 use std::sync::ledger::Ledger;
-
-/// How many bytes a file may have.
-const FILE_LIMIT: usize = 0x1000_0000;
+use symbol_table::{Resolved, resolve};
 
 /// Where text is loaded.
 const TEXT_START: u64 = 0x1000_0000;
@@ -21,30 +20,7 @@ const TEXT_START: u64 = 0x1000_0000;
 /// The flags of a segment that is read and executed.
 const READ_EXECUTE: u32 = 5;
 
-// The program of a file, or the file's refusal.
-fn program_of(number: u32, b: &[u8]) -> Result<Program<'_>, Refusal>
-    ensures refused { IfErr result (λ r. file_refusal number b.now ≡ Some r) }
-    ensures ok { OnOk result (file_refusal number b.now ≡ None) }
-    ensures limit { OnOk result (length b.now ≤ 0x10000000) }
-    ensures start { IfOk result (λ p. p.start ≡ start_offset b.now) }
-    ensures text { IfOk result (λ p. p.text.now ≡ text_of b.now) }
-    ensures some { IfOk result (λ p. 0 < length p.text.now) }
-    ensures within { IfOk result (λ p. length p.text.now ≤ length b.now) }
-    ensures below { IfOk result (λ p. p.start < length p.text.now) }
-{
-    if b.len() > FILE_LIMIT {
-        return Err(Refusal::FileTooLong(number));
-    }
-    if !has_magic(b) {
-        return Err(Refusal::NotElf(number));
-    }
-    match thin_program(b) {
-        Some(program) => Ok(program),
-        None => Err(Refusal::NotBuilt(number)),
-    }
-}
-
-// The executable that loads a program's text and starts in it.
+// The executable that loads a text and starts in it.
 fn image(alloc: Global, start: u64, text: &[u8]) -> Result<Vec<u8>, Memory>
     requires some { 0 < length text.now }
     requires limit { length text.now ≤ 0x10000000 }
@@ -66,34 +42,53 @@ fn image(alloc: Global, start: u64, text: &[u8]) -> Result<Vec<u8>, Memory>
     write_exec(alloc, &segments)
 }
 
-/// The bytes of the only file.
-pub fn only(files: &[FileBytes]) -> &[u8]
-    requires { length files.now ≡ 1 }
-    ensures { contents_of files.now ≡ result.now ∷ [] }
+/// The bytes of the only kept section, in which the files are entered.
+fn only_text<'a>(resolved: &Resolved<'a, '_>) -> &'a [u8]
+    requires whole { set_refusal resolved.now.0 ≡ None }
+    requires built { not_built resolved.now.0 ≡ None }
+    requires entered { IsEntered resolved.now.0 resolved.now.1 }
+    ensures text { result.now ≡ text_of resolved.now.0 }
+    ensures below { resolved.now.1.offset < length result.now }
+    ensures limit { length result.now ≤ 0x10000000 }
 {
-    files[0].bytes.as_slice()
+    let (file, section) = resolved.text_of(resolved.entry().section);
+    resolved.set().view(file).section(section).bytes
 }
 
-/// Links one file. The refusal is the first in the stated order; else the image is the file's executable.
+/// The executable of the files' only kept section, or why there is none.
+fn image_of(alloc: Global, files: &[FileBytes], entry: &[u8]) -> Result<Vec<u8>, Refusal>
+    requires { length files.now ≤ 4096 }
+    ensures refusal { Answers result (first_refusal (contents_of files.now) entry.now) }
+    ensures image { IfOk result (λ image. image.items ≡ image_of (contents_of files.now) entry.now) }
+{
+    let set = ObjectSet::take(alloc, files)?;
+    let resolved = resolve(alloc, &set, entry)?;
+    check_built(&set)?;
+    match image(alloc, resolved.entry().offset, only_text(&resolved)) {
+        Ok(image) => Ok(image),
+        Err(Memory) => Err(Refusal::Memory),
+    }
+}
+
+/// Links files. The refusal is the first in the stated order: of each file by itself, in order; of a name that is defined twice, and of
+/// the entry; of the first file that can't be linked yet. Else the image is the executable of the files' only kept section, which is
+/// entered at the global entry point of what the entry's name stands for (ELFv2 ABI, 3.4.1 "Symbol Values").
 pub fn link<L: Ledger>(
     alloc: Global,
     files: &[FileBytes],
     options: &Options,
     steps: &mut Steps<L>,
 ) -> Result<Linked, Refusal>
-    requires one { length files.now ≡ 1 }
+    requires some { 1 ≤ length files.now }
+    requires few { length files.now ≤ 4096 }
     requires range { InRange options.now }
-    ensures refused { IfErr result (λ r. (r ≡ Refusal.Memory) ⊎ (first_refusal (contents_of files.now) ≡ Some r)) }
-    ensures linked { OnOk result (first_refusal (contents_of files.now) ≡ None) }
-    ensures image { IfOk result (λ l. l.image.items ≡ image_of (contents_of files.now)) }
+    ensures refused { IfErr result (λ r. (r ≡ Refusal.Memory) ⊎ (first_refusal (contents_of files.now) (entry_of options.now) ≡ Some r)) }
+    ensures linked { OnOk result (first_refusal (contents_of files.now) (entry_of options.now) ≡ None) }
+    ensures image { IfOk result (λ l. l.image.items ≡ image_of (contents_of files.now) (entry_of options.now)) }
     ensures counts { IfOk result (λ l. (l.sites ≡ 0) × (l.far ≡ 0) × (l.stub_bytes ≡ 0) × (l.folds ≡ 0)) }
     ensures steps { steps.new ≡ steps.old }
 {
-    let program = program_of(0, only(files))?;
-    let image = match image(alloc, program.start, program.text) {
-        Ok(image) => image,
-        Err(Memory) => return Err(Refusal::Memory),
-    };
+    let image = image_of(alloc, files, options.entry.as_str().as_bytes())?;
     Ok(Linked {
         image,
         sites: 0,

@@ -1,12 +1,15 @@
 // The link: object files become the bytes of one static executable, or the link is refused with the first refusal in the
-// stated order. So far one file is linked, of one text section without relocations.
+// stated order. So far the files together have one section to keep, of text without relocations.
 #![tactic(auto)]
 
 mod engine;
 mod files;
-mod thin;
+mod stage;
 
-pub use engine::{link, only};
+pub use engine::link;
 pub use files::{Linked, Options};
 pub use object_set::{FileBytes, Refusal, Site};
 pub use ppc_bytes::Steps;
+
+#[cfg(test)]
+mod tests;

@@ -1,64 +1,118 @@
 -- A link of what was fetched is a link of the files.
-use Rattle.std.proofs.Common.{◌≡◌, ℕ, zero, suc, ◌+◌, ◌<◌, ◌⊎◌, inl, inr, List, [], ◌∷◌, length, take, get_or, Option, Some, None, refl, sym, ap, ◌∙◌, subst, arith, String, take_all, ◌≢◌, Vec}
-use Rattle.std.specs.Prelude.{string_bytes, slice_index_or, unwrap_or, Result, Ok, Err, IfOk, OnOk, MatchResult}
+use Rattle.std.proofs.Common.{◌≡◌, ℕ, zero, suc, ◌+◌, ◌<◌, ◌⊎◌, inl, inr, List, [], ◌∷◌, length, take, get_or, Option, Some, None, refl, sym, ap, ◌∙◌, subst, arith, String, ◌≢◌, Vec}
+use Rattle.std.specs.Prelude.{string_bytes, slice_index_or, Result, Ok, Err, IfOk, OnOk, MatchResult}
 use Rattle.std.specs.declared.alloc.Global.{Global}
-use Rattle.std.proofs.lemmas.Bool.{cases_lt, lt-ltb}
-use Rattle.std.proofs.lemmas.List.{length-take-le}
+use Rattle.std.proofs.lemmas.Bool.{lt-ltb}
 use Rattle.object_set.specs.declared.refusal.Refusal.{Refusal}
 use Rattle.object_set.specs.declared.refusal.Refusal.TheVariants.{FileTooLong}
 use Rattle.object_set.specs.declared.refusal.Refusal.TheVariants.{Memory as Memory'}
 use Rattle.ppc_bytes.specs.declared.memory.Memory.{Memory as NoMem}
 use Rattle.ppc_outside.specs.declared.outside.OutsideError.TheVariants.{Failed, Memory}
-use Rattle.ppclink.specs.declared.perform.Answer.{Answer}
-use Rattle.ppclink.specs.declared.perform.Answer.TheVariants.{Printed, Written, Unwritten, NoMemory}
-use Rattle.link_engine.specs.Link.{file_refusal, first_refusal, image_of}
+use Rattle.ppclink.specs.declared.answer.Answer.{Answer}
+use Rattle.ppclink.specs.declared.answer.Answer.TheVariants.{Printed, Written, Unwritten, NoMemory}
+use Rattle.elf64_records.specs.First.{◌orelse◌}
+use Rattle.object_set.specs.Refusals.{length_refusal, fault_refusal, sections_refusal, symbols_refusal, file_refusal, files_refusal}
+use Rattle.symbol_table.specs.Targets.{resolve_refusal}
+use Rattle.link_engine.specs.Stage.{not_built}
+use Rattle.link_engine.specs.Link.{first_refusal, image_of}
 use Rattle.ppc_outside.specs.Outside.{Files, Replaced}
 use Rattle.ppclink.specs.Requests.{Request, texts, link_to, names_of, out_of, IsLink}
 use Rattle.ppclink.specs.Lines.{refusal_line, unread_line}
-use Rattle.ppclink.specs.Outcomes.{Outcome, link_outcome, outcome_in, settled, or_missing, printed, written}
-use Rattle.ppclink.specs.Fetching.{HasRead, HaveRead, ManyCause, file_limit}
+use Rattle.ppclink.specs.Printed.{Outcome, printed, written}
+use Rattle.ppclink.specs.Outcomes.{link_outcome}
+use Rattle.ppclink.specs.Fetching.{HaveRead, ManyCause, file_limit}
 use Rattle.ppclink.specs.declared.fetching.Unfetched.{Unfetched}
 use Rattle.ppclink.specs.declared.fetching.Unfetched.TheVariants as unfetched
+use Rattle.ppclink.proofs.Coming.{AreFiles, cut, comes_held}
 use Rattle.ppclink.proofs.Reading.{length-texts}
 use Rattle.ppclink.specs.Causes.{Comes, Causes, SameFiles, AnswersReplace, Unread, outside}
 
-too_long : (b : List ℕ) → file_limit < length b → file_refusal 0 b ≡ Some (FileTooLong 0)
-too_long b long = rw (lt-ltb 0x10000000 (length b) long)
+-- one byte past the limit was read of each file, and no more of what is too long
+abbrev pub AreCut : List (List ℕ) → List (List ℕ) → Type 0
+AreCut [] [] = Unit {0}
+AreCut [] (whole ∷ wholes) = ⊥
+AreCut (c ∷ contents) [] = ⊥
+AreCut (c ∷ contents) (whole ∷ wholes) = (c ≡ take (file_limit + 1) whole) × AreCut contents wholes
 
--- one byte past the limit tells as much as the whole file
-same_outcome : (out : List ℕ) (names : List (List ℕ)) (c whole : List ℕ) → c ≡ take (file_limit + 1) whole → link_outcome out names (c ∷ []) (file_refusal 0 c) ≡ link_outcome out names (whole ∷ []) (file_refusal 0 whole)
-same_outcome out names c whole is =
-    elim (cases_lt file_limit (length whole)) [
+-- what was read is that much of files that the names hold
+wholes_read : (told : Option Files) (names contents : List (List ℕ)) → HaveRead told names contents → (wholes : List (List ℕ)) × AreFiles told names wholes × AreCut contents wholes
+wholes_read told [] [] read = ([], tt, tt)
+wholes_read told [] (c ∷ contents) read = absurd read
+wholes_read told (name ∷ names) [] read = absurd read
+wholes_read told (name ∷ names) (c ∷ contents) read =
+    let rest = wholes_read told names contents read.1 in
+    (read.0.0 ∷ rest.0, (read.0.1, rest.1), (read.0.2, rest.2))
+
+too_long : (file : ℕ) (b : List ℕ) → file_limit < length b → length_refusal file b ≡ Some (FileTooLong file)
+too_long file b long = rw (lt-ltb 0x10000000 (length b) long)
+
+too_long_file : (file : ℕ) (b : List ℕ) → file_limit < length b → file_refusal file b ≡ Some (FileTooLong file)
+unfolding file_refusal
+too_long_file file b long = ap (λ o. o orelse (fault_refusal file b orelse (sections_refusal file b orelse symbols_refusal file b))) (too_long file b long)
+
+-- both are refused for one thing
+abbrev pub RefusedAlike : ℕ → List (List ℕ) → List (List ℕ) → Type 0
+RefusedAlike file contents wholes = (r : Refusal) × (files_refusal file contents ≡ Some r) × (files_refusal file wholes ≡ Some r)
+
+same_file : (file : ℕ) (b : List ℕ) (contents wholes : List (List ℕ)) (o : Option Refusal) → file_refusal file b ≡ o → RefusedAlike (file + 1) contents wholes → RefusedAlike file (b ∷ contents) (b ∷ wholes)
+same_file file b contents wholes None is rest = (
+  rest.0,
+  ap (λ o. o orelse files_refusal (file + 1) contents) is ∙ rest.1,
+  ap (λ o. o orelse files_refusal (file + 1) wholes) is ∙ rest.2,
+)
+same_file file b contents wholes (Some r) is rest = (
+  r,
+  ap (λ o. o orelse files_refusal (file + 1) contents) is,
+  ap (λ o. o orelse files_refusal (file + 1) wholes) is,
+)
+
+-- one byte past the limit tells as much as the whole files
+cut_alike : (file : ℕ) (contents wholes : List (List ℕ)) → AreCut contents wholes → (contents ≡ wholes) ⊎ RefusedAlike file contents wholes
+cut_alike file [] [] are = inl refl
+cut_alike file [] (whole ∷ wholes) are = absurd are
+cut_alike file (c ∷ contents) [] are = absurd are
+cut_alike file (c ∷ contents) (whole ∷ wholes) are =
+    elim (cut file_limit c whole are.0) [
       | inl long ↦
-          let size : length c ≡ file_limit + 1 = ap length is ∙ length-take-le (file_limit + 1) whole (omega arith) in
-          ap (link_outcome out names (c ∷ [])) (too_long c (omega (arith, size)))
-          ∙ sym (ap (link_outcome out names (whole ∷ [])) (too_long whole long))
-      | inr short ↦
-          ap (λ b. link_outcome out names (b ∷ []) (file_refusal 0 b)) (is ∙ take_all (file_limit + 1) whole (omega arith))
+          inr (
+            FileTooLong file,
+            ap (λ o. o orelse files_refusal (file + 1) contents) (too_long_file file c long.0),
+            ap (λ o. o orelse files_refusal (file + 1) wholes) (too_long_file file whole long.1),
+          )
+      | inr same ↦
+          elim (cut_alike (file + 1) contents wholes are.1) [
+            | inl rest ↦ inl (ap (λ b. b ∷ contents) same ∙ ap (λ l. whole ∷ l) rest)
+            | inr rest ↦
+                inr (subst (λ b. RefusedAlike file (c ∷ contents) (b ∷ wholes)) same (same_file file c contents wholes (file_refusal file c) refl rest))
+          ]
     ]
 
--- what a link of one file comes to, over files that hold it
-settles : (files : Files) (out name c : List ℕ) → HasRead (Some files) name c → outcome_in files (link_to out (name ∷ [])) ≡ link_outcome out (name ∷ []) (c ∷ []) (file_refusal 0 c)
-settles files out name c read =
-    ap (λ o. settled (or_missing o name None) (link_outcome out (name ∷ []) (unwrap_or o [] ∷ []) (file_refusal 0 (unwrap_or o [])))) read.1
-    ∙ sym (same_outcome out (name ∷ []) c read.0 read.2)
+same_outcome : (out entry : List ℕ) (names contents wholes : List (List ℕ)) → AreCut contents wholes →
+    link_outcome out entry names contents (first_refusal contents entry) ≡ link_outcome out entry names wholes (first_refusal wholes entry)
+same_outcome out entry names contents wholes are =
+    elim (cut_alike 0 contents wholes are) [
+      | inl same ↦ ap (λ l. link_outcome out entry names l (first_refusal l entry)) same
+      | inr alike ↦
+          ap (λ o. link_outcome out entry names contents (o orelse (resolve_refusal contents entry orelse not_built contents))) alike.1
+          ∙ sym (ap (λ o. link_outcome out entry names wholes (o orelse (resolve_refusal wholes entry orelse not_built wholes))) alike.2)
+    ]
 
-comes_one : (told : Option Files) (out name c : List ℕ) (o : Outcome) → HasRead told name c → link_outcome out (name ∷ []) (c ∷ []) (file_refusal 0 c) ≡ o → Comes told (link_to out (name ∷ [])) o
-comes_one None out name c o read is = (c ∷ [], is)
-comes_one (Some files) out name c o read is = settles files out name c read ∙ is
+comes : (told : Option Files) (out entry : List ℕ) (names contents : List (List ℕ)) (o : Outcome) → HaveRead told names contents →
+    link_outcome out entry names contents (first_refusal contents entry) ≡ o → Comes told (link_to out entry names) o
+comes told out entry names contents o read is =
+    let held = wholes_read told names contents read in
+    comes_held told (link_to out entry names) held.0 o held.1 (sym (same_outcome out entry names contents held.0 held.2) ∙ is)
 
-pub comes : (told : Option Files) (out : List ℕ) (names : List (String Global)) (contents : List (List ℕ)) (o : Outcome) → length names ≡ 1 → HaveRead told (texts names) contents → link_outcome out (texts names) contents (first_refusal contents) ≡ o → Comes told (link_to out (texts names)) o
-comes told out [] contents o one read is = absurd (omega arith)
-comes told out (n ∷ m ∷ names) contents o one read is = absurd (omega arith)
-comes told out (n ∷ []) [] o one read is = absurd read
-comes told out (n ∷ []) (c ∷ []) o one read is = comes_one told out (string_bytes n) c o read.0 is
-comes told out (n ∷ []) (c ∷ d ∷ contents) o one read is = absurd read.1
+pub comes_printed : (told : Option Files) (out entry : List ℕ) (names contents : List (List ℕ)) (r : Refusal) → HaveRead told names contents → first_refusal contents entry ≡ Some r →
+    Comes told (link_to out entry names) (printed 1 (refusal_line names r))
+comes_printed told out entry names contents r read is = comes told out entry names contents _ read (ap (link_outcome out entry names contents) is)
 
-pub comes_printed : (told : Option Files) (out : List ℕ) (names : List (String Global)) (contents : List (List ℕ)) (r : Refusal) → length names ≡ 1 → HaveRead told (texts names) contents → first_refusal contents ≡ Some r → Comes told (link_to out (texts names)) (printed 1 (refusal_line (texts names) r))
-comes_printed told out names contents r one read is = comes told out names contents _ one read (ap (link_outcome out (texts names) contents) is)
-
-pub comes_written : (told : Option Files) (out image : List ℕ) (names : List (String Global)) (contents : List (List ℕ)) → length names ≡ 1 → HaveRead told (texts names) contents → first_refusal contents ≡ None → image ≡ image_of contents → Comes told (link_to out (texts names)) (written out image)
-comes_written told out image names contents one read is image-is = comes told out names contents _ one read (ap (link_outcome out (texts names) contents) is ∙ ap (written out) (sym image-is))
+pub comes_written : (told : Option Files) (out entry entry' image : List ℕ) (names contents : List (List ℕ)) → entry' ≡ entry → HaveRead told names contents → first_refusal contents entry' ≡ None →
+    image ≡ image_of contents entry' → Comes told (link_to out entry names) (written out image)
+comes_written told out entry entry' image names contents same read is image-is =
+    let passes : first_refusal contents entry ≡ None = ap (first_refusal contents) (sym same) ∙ is in
+    let made : image_of contents entry ≡ image = ap (image_of contents) (sym same) ∙ sym image-is in
+    comes told out entry names contents _ read (ap (link_outcome out entry names contents) passes ∙ ap (written out) made)
 
 -- a replace that found no memory changed nothing
 kept : (told told' : Option Files) (out image : List ℕ) → Replaced told told' out image (Err Memory) → SameFiles told told'
@@ -78,13 +132,13 @@ same_files None = tt
 same_files (Some files) = λ name. refl
 
 -- the line of a refusal, or want of memory for it
-pub refuse_causes : (told : Option Files) (f w : ℕ) (out : List ℕ) (names : List (String Global)) (contents : List (List ℕ)) (r : Refusal) (text : Result (Vec ℕ Global) NoMem) (a : Answer) → length names ≡ 1 → HaveRead told (texts names) contents → (r ≡ Memory') ⊎ (first_refusal contents ≡ Some r) → IfOk text (λ t. t.items ≡ refusal_line (texts names) r) → OnOk text (r ≢ Memory') → MatchResult text (λ t. a ≡ Printed 1 t) (λ e. a ≡ NoMemory) → Causes (outside told f w) (outside told f w) (Some (link_to out (texts names))) a
-refuse_causes told f w out names contents r (Err e) a one read refused line stated is = subst (λ b. Causes (outside told f w) (outside told f w) (Some (link_to out (texts names))) b) (sym is) (omega arith, refl, same_files told)
-refuse_causes told f w out names contents r (Ok t) a one read (inl memory) line stated is = absurd (stated memory)
-refuse_causes told f w out names contents r (Ok t) a one read (inr h) line stated is =
-    let printed-is = comes_printed told out names contents r one read h in
-    let here = subst (λ l. Comes told (link_to out (texts names)) (printed 1 l)) (sym line) printed-is in
-    subst (λ b. Causes (outside told f w) (outside told f w) (Some (link_to out (texts names))) b) (sym is) (record { told = refl; write_faults = refl; faults = omega arith }, inr (omega arith, refl, here))
+pub refuse_causes : (told : Option Files) (f w : ℕ) (out entry entry' : List ℕ) (names contents : List (List ℕ)) (r : Refusal) (text : Result (Vec ℕ Global) NoMem) (a : Answer) → entry' ≡ entry → HaveRead told names contents → (r ≡ Memory') ⊎ (first_refusal contents entry' ≡ Some r) → IfOk text (λ t. t.items ≡ refusal_line names r) → OnOk text (r ≢ Memory') → MatchResult text (λ t. a ≡ Printed 1 t) (λ e. a ≡ NoMemory) → Causes (outside told f w) (outside told f w) (Some (link_to out entry names)) a
+refuse_causes told f w out entry entry' names contents r (Err e) a same read refused line stated is = subst (λ b. Causes (outside told f w) (outside told f w) (Some (link_to out entry names)) b) (sym is) (omega arith, refl, same_files told)
+refuse_causes told f w out entry entry' names contents r (Ok t) a same read (inl memory) line stated is = absurd (stated memory)
+refuse_causes told f w out entry entry' names contents r (Ok t) a same read (inr h) line stated is =
+    let printed-is = comes_printed told out entry names contents r read (ap (first_refusal contents) (sym same) ∙ h) in
+    let here = subst (λ l. Comes told (link_to out entry names) (printed 1 l)) (sym line) printed-is in
+    subst (λ b. Causes (outside told f w) (outside told f w) (Some (link_to out entry names)) b) (sym is) (record { told = refl; write_faults = refl; faults = omega arith }, inr (inl (omega arith), refl, here))
 
 -- the name with a number, as its bytes
 index-texts : (names : List (String Global)) (i : ℕ) (d : String Global) → i < length names → slice_index_or (texts names) i [] ≡ string_bytes (get_or names i d)

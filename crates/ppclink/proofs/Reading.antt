@@ -9,10 +9,10 @@ use Rattle.ppclink.specs.Requests.{texts}
 use Rattle.ppclink.specs.Outcomes.{first_missing, or_missing}
 use Rattle.ppc_outside.specs.declared.outside.OutsideError.{OutsideError}
 use Rattle.ppc_outside.specs.declared.outside.OutsideError.TheVariants.{Failed}
-use Rattle.ppclink.specs.Fetching.{HasRead, HaveRead, IsFirstMissing, OneCause}
+use Rattle.ppclink.specs.Fetching.{file_limit, HasRead, HaveRead, IsFirstMissing, OneCause}
 
 -- one more file was read
-read-suc : (told : Option Files) (names : List (String Global)) (i : ℕ) (name : String Global) (contents : List (List ℕ)) (bytes : List ℕ) → i < length names → HaveRead told (texts (take i names)) contents → HasRead told (string_bytes (get_or names i name)) bytes → HaveRead told (texts (take (suc i) names)) (contents ++ bytes ∷ [])
+read-suc : (told : Option Files) (names : List (String Global)) (i : ℕ) (name : String Global) (contents : List (List ℕ)) (bytes : List ℕ) → i < length names → HaveRead told (texts (take i names)) contents → HasRead told file_limit (string_bytes (get_or names i name)) bytes → HaveRead told (texts (take (suc i) names)) (contents ++ bytes ∷ [])
 read-suc told [] i name contents bytes lt read one = absurd (omega arith)
 read-suc told (n ∷ names) zero name [] bytes lt read one = (one, tt)
 read-suc told (n ∷ names) zero name (b ∷ contents) bytes lt read one = absurd read
@@ -23,10 +23,10 @@ contents-append : (files : List FileBytes) (f : FileBytes) → contents_of (file
 contents-append [] f = refl
 contents-append (g ∷ files) f = ap (λ l. g.bytes.items ∷ l) (contents-append files f)
 
-pub read_more : (told told' : Option Files) (names : List (String Global)) (i : ℕ) (name : String Global) (files after : List FileBytes) (f : FileBytes) (text : List ℕ) → i < length names → told' ≡ told → text ≡ string_bytes (get_or names i name) → after ≡ files ++ f ∷ [] → HaveRead told (texts (take i names)) (contents_of files) → HasRead told' text f.bytes.items → HaveRead told (texts (take (i + 1) names)) (contents_of after)
+pub read_more : (told told' : Option Files) (names : List (String Global)) (i : ℕ) (name : String Global) (files after : List FileBytes) (f : FileBytes) (text : List ℕ) → i < length names → told' ≡ told → text ≡ string_bytes (get_or names i name) → after ≡ files ++ f ∷ [] → HaveRead told (texts (take i names)) (contents_of files) → HasRead told' file_limit text f.bytes.items → HaveRead told (texts (take (i + 1) names)) (contents_of after)
 read_more told told' names i name files after f text lt same is pushed read one =
-    let here = subst (λ t. HasRead t text f.bytes.items) same one in
-    let step = read-suc told names i name (contents_of files) f.bytes.items lt read (subst (λ t. HasRead told t f.bytes.items) is here) in
+    let here = subst (λ t. HasRead t file_limit text f.bytes.items) same one in
+    let step = read-suc told names i name (contents_of files) f.bytes.items lt read (subst (λ t. HasRead told file_limit t f.bytes.items) is here) in
     let more = subst (λ k. HaveRead told (texts (take k names)) (contents_of files ++ f.bytes.items ∷ [])) (sym (add-one i)) step in
     subst (λ l. HaveRead told (texts (take (i + 1) names)) l) (sym (ap contents_of pushed ∙ contents-append files f)) more
 

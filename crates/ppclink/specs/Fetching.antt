@@ -12,15 +12,20 @@ abbrev pub file_limit : ℕ
 file_limit = 0x10000000
 
 -- where the store tells it, the name holds bytes that begin so; one byte past the limit was asked for
-abbrev pub HasRead : Option Files → List ℕ → List ℕ → Type 0
-HasRead told name bytes = (whole : List ℕ) × Holds told name whole × (bytes ≡ take (file_limit + 1) whole)
+abbrev pub HasRead : Option Files → ℕ → List ℕ → List ℕ → Type 0
+HasRead told limit name bytes = (whole : List ℕ) × Holds told name whole × (bytes ≡ take (limit + 1) whole)
 
--- so for each name
+-- so for each object file
 abbrev pub HaveRead : Option Files → List (List ℕ) → List (List ℕ) → Type 0
 HaveRead told [] [] = Unit {0}
 HaveRead told [] (bytes ∷ contents) = ⊥
 HaveRead told (name ∷ names) [] = ⊥
-HaveRead told (name ∷ names) (bytes ∷ contents) = HasRead told name bytes × HaveRead told names contents
+HaveRead told (name ∷ names) (bytes ∷ contents) = HasRead told file_limit name bytes × HaveRead told names contents
+
+-- where there is a name it was read, and else there are no bytes
+abbrev pub HasGiven : Option Files → ℕ → Option (List ℕ) → List ℕ → Type 0
+HasGiven told limit None bytes = bytes ≡ []
+HasGiven told limit (Some name) bytes = HasRead told limit name bytes
 
 -- why one file wasn't fetched
 abbrev pub OneCause : Option Files → List ℕ → ℕ → ℕ → OutsideError → Type 0

@@ -2,10 +2,11 @@
 use Rattle.std.specs.Prelude.{ℕ, ◌≡◌, ◌≢◌, ◌⊎◌, ◌<◌, List, [], Option, Some, None, IsSome, Ok, Err, slice_index_or}
 use Rattle.ppc_outside.specs.Outside.{Files, HasRisen, last_count, Replaced, Prints}
 use Rattle.ppc_outside.specs.declared.outside.OutsideError.TheVariants.{Failed, Memory}
-use Rattle.ppclink.specs.declared.perform.Answer.{Answer}
-use Rattle.ppclink.specs.declared.perform.Answer.TheVariants.{Printed, Written, Unwritten, NoMemory}
-use Rattle.ppclink.specs.Requests.{Request, names_of, out_of, link_to, show_file, IsLink}
-use Rattle.ppclink.specs.Outcomes.{Outcome, printed, written, outcome_in, first_missing}
+use Rattle.ppclink.specs.declared.answer.Answer.{Answer}
+use Rattle.ppclink.specs.declared.answer.Answer.TheVariants.{Printed, Written, Unwritten, NoMemory}
+use Rattle.ppclink.specs.Requests.{Request, names_of, out_of, link_to, show_file, run_image, IsLink}
+use Rattle.ppclink.specs.Printed.{Outcome, printed, written}
+use Rattle.ppclink.specs.Outcomes.{ComesIn, first_missing}
 use Rattle.ppclink.specs.Causes.{Outside, Unread, Comes, SameFiles}
 
 -- a status, or 4 or 5 in its place
@@ -40,10 +41,10 @@ IsUnread old new None name = ⊥
 IsUnread old new (Some request) name =
     (i : ℕ) × (name ≡ slice_index_or (names_of request) i []) × Unread old new (names_of request) i
 
--- the request was refused with this line
-abbrev pub IsRefused : Outside → Outside → Option Request → List ℕ → Type 0
-IsRefused old new None line = ⊥
-IsRefused old new (Some request) line = Comes old.told request (printed 1 line) × (new.faults ≡ old.faults)
+-- the request came to this status with this text
+abbrev pub IsPrinted : Outside → Outside → Option Request → ℕ → List ℕ → Type 0
+IsPrinted old new None status text = ⊥
+IsPrinted old new (Some request) status text = Comes old.told request (printed status text) × (new.faults ≡ old.faults)
 
 -- the request was done: its executable was written and nothing printed, or its text was printed and nothing written
 abbrev pub IsDone : Outside → Outside → Option (List ℕ) → Option (List ℕ) → Option Request → Type 0
@@ -66,7 +67,8 @@ SparesOthers old new (Some request) = Replaced old.told new.told (out_of request
 -- a request that is no link writes nothing
 abbrev pub KeepsFiles : Outside → Outside → Option Request → Type 0
 KeepsFiles old new None = new ≡ old
-KeepsFiles old new (Some (link_to out files)) = Unit {0}
+KeepsFiles old new (Some (link_to out entry files)) = Unit {0}
+KeepsFiles old new (Some (run_image image input budget)) = (new.write_faults ≡ old.write_faults) × SameFiles old.told new.told
 KeepsFiles old new (Some (show_file files)) = (new.write_faults ≡ old.write_faults) × SameFiles old.told new.told
 
 -- the status of an outcome
@@ -80,7 +82,7 @@ pub record Settles (old new : Outside) (found : Option Request) (outcome : Outco
   pub asked : found ≡ Some request
   pub files : Files
   pub told : old.told ≡ Some files
-  pub came : outcome_in files request ≡ outcome
+  pub came : ComesIn files request outcome
   pub quiet : new.faults ≡ old.faults
   pub sound : new.faults ≢ last_count
 

@@ -1,8 +1,8 @@
 // Files are fetched before anything is checked.
-ghost use Rattle.std.specs.Prelude.{◌≡◌, ◌≤◌, length, OnOk, IfOk, IfErr};
+ghost use Rattle.std.specs.Prelude.{◌≡◌, ◌≤◌, ◌<◌, ◌^◌, [], ◌∷◌, length, OnOk, IfOk, IfErr};
 ghost use Rattle.object_set.specs.Files.{contents_of};
 ghost use Rattle.ppclink.specs.Requests.{texts};
-ghost use Rattle.ppclink.specs.Fetching.{HasRead, HaveRead, OneCause, ManyCause};
+ghost use Rattle.ppclink.specs.Fetching.{HasRead, HaveRead, OneCause, ManyCause, file_limit};
 
 use link_engine::FileBytes;
 use ppc_outside::{OutsideError, Store};
@@ -20,22 +20,41 @@ pub enum Unfetched {
     Memory,
 }
 
-// Fetches one file, with one byte more than it may have.
-fn fetch_file<S: Store>(alloc: Global, name: &str, store: &mut S) -> Result<FileBytes, OutsideError>
+/// Fetches the first bytes of a file, one more than it may have.
+pub fn fetch<S: Store>(
+    alloc: Global,
+    name: &str,
+    limit: usize,
+    store: &mut S,
+) -> Result<Vec<u8>, OutsideError>
+    requires { limit < 2 ^ 32 }
     ensures told { S.told store.new ≡ S.told store.old }
     ensures write_faults { S.write_faults store.new ≡ S.write_faults store.old }
-    ensures ok { IfOk result (λ file. HasRead (S.told store.old) name.now file.bytes.items) }
+    ensures ok { IfOk result (λ bytes. HasRead (S.told store.old) limit name.now bytes.items) }
     ensures ok_faults { OnOk result (S.faults store.new ≡ S.faults store.old) }
     ensures cause { IfErr result (OneCause (S.told store.old) name.now (S.faults store.old) (S.faults store.new)) }
 {
     let mut bytes = Vec::new(alloc);
+    match store.fetch(name, limit + 1, &mut bytes) {
+        Ok(()) => Ok(bytes),
+        Err(error) => Err(error),
+    }
+}
+
+// Fetches an object file.
+fn fetch_file<S: Store>(alloc: Global, name: &str, store: &mut S) -> Result<FileBytes, OutsideError>
+    ensures told { S.told store.new ≡ S.told store.old }
+    ensures write_faults { S.write_faults store.new ≡ S.write_faults store.old }
+    ensures ok { IfOk result (λ file. HasRead (S.told store.old) file_limit name.now file.bytes.items) }
+    ensures ok_faults { OnOk result (S.faults store.new ≡ S.faults store.old) }
+    ensures cause { IfErr result (OneCause (S.told store.old) name.now (S.faults store.old) (S.faults store.new)) }
+{
     let Ok(owned) = String::from_str(alloc, name) else {
         return Err(OutsideError::Memory);
     };
-    match store.fetch(name, FILE_LIMIT + 1, &mut bytes) {
-        Ok(()) => Ok(FileBytes { name: owned, bytes }),
-        Err(OutsideError::Failed) => Err(OutsideError::Failed),
-        Err(OutsideError::Memory) => Err(OutsideError::Memory),
+    match fetch(alloc, name, FILE_LIMIT, store) {
+        Ok(bytes) => Ok(FileBytes { name: owned, bytes }),
+        Err(error) => Err(error),
     }
 }
 
@@ -64,4 +83,12 @@ pub fn fetch_files<S: Store>(
         }
     }
     Ok(files)
+}
+
+/// The bytes of the only file.
+pub fn only(files: &[FileBytes]) -> &[u8]
+    requires { length files.now ≡ 1 }
+    ensures { contents_of files.now ≡ result.now ∷ [] }
+{
+    files[0].bytes.as_slice()
 }

@@ -28,8 +28,8 @@ fn joined(alloc: Global, front: &[u8], back: &[u8]) -> Result<Vec<u8>, Memory>
     Ok(text)
 }
 
-// A text and a decimal number.
-fn numbered(alloc: Global, front: &[u8], n: u32) -> Result<Vec<u8>, Memory>
+/// A text and a decimal number.
+pub fn numbered(alloc: Global, front: &[u8], n: u32) -> Result<Vec<u8>, Memory>
     ensures { IfOk result (λ l. l.items ≡ front.now ++ decimal n) }
 {
     let digits = n.to_string(alloc)?;
@@ -86,8 +86,8 @@ fn name_in(names: &[String], file: u32) -> &[u8]
     }
 }
 
-// What is wrong at a place of a file.
-fn about(alloc: Global, name: &[u8], place: &[u8], what: &[u8]) -> Result<Vec<u8>, Memory>
+/// What is wrong at a place of a file.
+pub fn about(alloc: Global, name: &[u8], place: &[u8], what: &[u8]) -> Result<Vec<u8>, Memory>
     ensures { IfOk result (λ text. text.items ≡ about name.now place.now what.now) }
 {
     let mut text = Vec::from_slice(alloc, name)?;

@@ -1,9 +1,17 @@
 // The linker's command: words in, a status and text out, over files and a console.
 #![tactic(auto)]
 
+mod answer;
 mod fetching;
 mod lines;
+#[cfg(test)]
+mod link_tests;
+mod numbers;
 mod perform;
+mod report;
+#[cfg(test)]
+mod run_tests;
+mod running;
 mod show;
 #[cfg(test)]
 mod tests;

@@ -1,51 +1,25 @@
 // What the command does over the files, before it prints.
-ghost use Rattle.std.specs.Prelude.{◌≡◌, length, Some, Result, Ok, Err, None, MatchResult, IfOk, IfErr, OnOk};
+ghost use Rattle.std.specs.Prelude.{◌≡◌, ◌≤◌, length, Some, Ok, Err, None, IfOk, IfErr, OnOk};
 ghost use Rattle.ppclink.specs.Outcomes.{view_refusal};
 ghost use Rattle.ppclink.specs.Requests.{request_of, texts, link_to, show_file};
 ghost use Rattle.ppclink.specs.Causes.{outside, Causes, AnswersReplace, AnswersShow};
 ghost use Rattle.ppclink.specs.Fetching.{HaveRead};
 ghost use Rattle.object_set.specs.Files.{contents_of};
-ghost use Rattle.link_engine.specs.Link.{InRange};
+ghost use Rattle.link_engine.specs.Link.{InRange, entry_of};
 
-use crate::fetching::{FILE_LIMIT, Unfetched, fetch_files};
+use crate::answer::{Answer, printed};
+use crate::fetching::{FILE_LIMIT, Unfetched, fetch_files, only};
 use crate::lines::{refusal_line, unread_line, usage_line};
+use crate::running::perform_run;
 use crate::show::shown;
 use crate::words::{Command, parse};
 use elf64_records::ObjectView;
-use link_engine::{FileBytes, Options, Refusal, Steps, link, only};
+use link_engine::{FileBytes, Options, Refusal, Steps, link};
 use object_set::refusal_of;
 use ppc_bytes::Memory;
 use ppc_outside::{OutsideError, Store};
 use std::alloc::Global;
 use std::sync::ledger::Ledger;
-
-/// What is left to do for the command.
-#[derive(Debug, Drop)]
-pub enum Answer {
-    /// Print the text and end with the status.
-    Printed {
-        /// The status.
-        status: u8,
-        /// The text.
-        text: Vec<u8>,
-    },
-    /// The executable was written.
-    Written,
-    /// The executable couldn't be written.
-    Unwritten,
-    /// Memory was refused.
-    NoMemory,
-}
-
-// A text to print, if there was memory for it.
-fn printed(status: u8, text: Result<Vec<u8>, Memory>) -> Answer
-    ensures { MatchResult text (λ t. result ≡ Answer.Printed status t) (λ e. result ≡ Answer.NoMemory) }
-{
-    match text {
-        Ok(text) => Answer::Printed { status, text },
-        Err(Memory) => Answer::NoMemory,
-    }
-}
 
 // The executable takes the place of the named file.
 fn write_out<S: Store>(out: &str, image: &[u8], store: &mut S) -> Answer
@@ -58,12 +32,13 @@ fn write_out<S: Store>(out: &str, image: &[u8], store: &mut S) -> Answer
     }
 }
 
-// The options of a link that names none.
-fn default_options(alloc: Global) -> Result<Options, Memory>
-    ensures { IfOk result InRange }
+// The options of a link with this entry.
+fn options_of(alloc: Global, entry: &str) -> Result<Options, Memory>
+    ensures range { IfOk result InRange }
+    ensures entry { IfOk result (λ o. entry_of o ≡ entry.now) }
 {
     Ok(Options {
-        entry: String::from_str(alloc, "_start")?,
+        entry: String::from_str(alloc, entry)?,
         branch_span: 0x200_0000,
         toc_span: 0x1_0000,
     })
@@ -73,18 +48,20 @@ fn default_options(alloc: Global) -> Result<Options, Memory>
 fn link_fetched<S: Store, L: Ledger>(
     alloc: Global,
     out: &str,
+    entry: &str,
     names: &[String],
     files: &[FileBytes],
     store: &mut S,
     steps: &mut Steps<L>,
 ) -> Answer
-    requires one { length names.now ≡ 1 }
+    requires some { 1 ≤ length names.now }
+    requires few { length names.now ≤ 4096 }
     requires count { length files.now ≡ length names.now }
     requires read { HaveRead (S.told store.old) (texts names.now) (contents_of files.now) }
-    ensures causes { Causes (outside (S.told store.old) (S.faults store.old) (S.write_faults store.old)) (outside (S.told store.new) (S.faults store.new) (S.write_faults store.new)) (Some (link_to out.now (texts names.now))) result }
+    ensures causes { Causes (outside (S.told store.old) (S.faults store.old) (S.write_faults store.old)) (outside (S.told store.new) (S.faults store.new) (S.write_faults store.new)) (Some (link_to out.now entry.now (texts names.now))) result }
     ensures steps { steps.new ≡ steps.old }
 {
-    let Ok(options) = default_options(alloc) else {
+    let Ok(options) = options_of(alloc, entry) else {
         return Answer::NoMemory;
     };
     match link(alloc, files, &options, steps) {
@@ -97,16 +74,18 @@ fn link_fetched<S: Store, L: Ledger>(
 fn perform_link<S: Store, L: Ledger>(
     alloc: Global,
     out: &str,
+    entry: &str,
     names: &[String],
     store: &mut S,
     steps: &mut Steps<L>,
 ) -> Answer
-    requires { length names.now ≡ 1 }
-    ensures causes { Causes (outside (S.told store.old) (S.faults store.old) (S.write_faults store.old)) (outside (S.told store.new) (S.faults store.new) (S.write_faults store.new)) (Some (link_to out.now (texts names.now))) result }
+    requires some { 1 ≤ length names.now }
+    requires few { length names.now ≤ 4096 }
+    ensures causes { Causes (outside (S.told store.old) (S.faults store.old) (S.write_faults store.old)) (outside (S.told store.new) (S.faults store.new) (S.write_faults store.new)) (Some (link_to out.now entry.now (texts names.now))) result }
     ensures steps { steps.new ≡ steps.old }
 {
     match fetch_files(alloc, names, store) {
-        Ok(files) => link_fetched(alloc, out, names, files.as_slice(), store, steps),
+        Ok(files) => link_fetched(alloc, out, entry, names, files.as_slice(), store, steps),
         Err(Unfetched::Failed(i)) => printed(3, unread_line(alloc, names[i].as_str())),
         Err(Unfetched::Memory) => Answer::NoMemory,
     }
@@ -161,8 +140,17 @@ pub fn perform<S: Store, L: Ledger>(
     ensures steps { steps.new ≡ steps.old }
 {
     match parse(words) {
-        Some(Command::Link { out, files }) => perform_link(alloc, out, files, store, steps),
+        Some(Command::Link { out, entry, files }) => {
+            perform_link(alloc, out, entry, files, store, steps)
+        }
         Some(Command::Show { files }) => perform_show(alloc, files, store),
+        Some(
+            Command::Run {
+                image,
+                input,
+                budget,
+            },
+        ) => perform_run(alloc, image, input, budget, store),
         None => printed(2, usage_line(alloc)),
     }
 }

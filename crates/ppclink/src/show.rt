@@ -100,10 +100,10 @@ fn symbol_line(alloc: Global, view: &ObjectView<'_>, j: u32) -> Result<Vec<u8>, 
 }
 
 // The bits of a record's addend.
-fn addend_bits(record: &Rela) -> u64
-    ensures { result ≡ cast_unsigned w64 record.now.addend }
+fn addend_bits(rela: &Rela) -> u64
+    ensures { result ≡ cast_unsigned w64 rela.now.addend }
 {
-    record.addend.cast_unsigned()
+    rela.addend.cast_unsigned()
 }
 
 #[tactic(auto, unfolding(crate::specs::Show::record_line))]

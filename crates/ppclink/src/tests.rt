@@ -33,25 +33,25 @@ const SMALLEST: [&str; 9] = [
 
 /// Which calls of the store and of the console fail.
 #[derive(Clone, Copy)]
-struct Failing {
-    store: Option<u64>,
-    console: Option<u64>,
+pub struct Failing {
+    pub store: Option<u64>,
+    pub console: Option<u64>,
 }
 
-const SOUND: Failing = Failing {
+pub const SOUND: Failing = Failing {
     store: None,
     console: None,
 };
 
 /// What a command did.
 #[derive(Drop)]
-struct Ran {
-    status: u8,
-    text: Vec<u8>,
-    out: Option<Vec<u8>>,
+pub struct Ran {
+    pub status: u8,
+    pub text: Vec<u8>,
+    pub out: Option<Vec<u8>>,
 }
 
-fn smallest(alloc: Global) -> Result<Vec<u8>, Fail> {
+pub fn smallest(alloc: Global) -> Result<Vec<u8>, Fail> {
     let mut bytes = Vec::new(alloc);
     for digits in SMALLEST {
         bytes.extend_from_slice(&hex::decode(alloc, digits)?)?;
@@ -60,7 +60,7 @@ fn smallest(alloc: Global) -> Result<Vec<u8>, Fail> {
 }
 
 // The smallest object with one byte changed.
-fn changed(alloc: Global, at: usize, byte: u8) -> Result<Vec<u8>, Fail> {
+pub fn changed(alloc: Global, at: usize, byte: u8) -> Result<Vec<u8>, Fail> {
     let mut bytes = smallest(alloc)?;
     if let Some(place) = bytes.get_mut(at) {
         *place = byte;
@@ -71,7 +71,7 @@ fn changed(alloc: Global, at: usize, byte: u8) -> Result<Vec<u8>, Fail> {
 fn run_with<L: Ledger>(
     blank: Blank,
     alloc: Global,
-    file: Option<&[u8]>,
+    files: &[(&str, &[u8])],
     words: &[&str],
     failing: Failing,
 ) -> Result<Ran, Fail>
@@ -80,8 +80,8 @@ fn run_with<L: Ledger>(
     requires some { 0 < L.parts }
 {
     let mut store = MemStore::new(alloc);
-    if let Some(bytes) = file {
-        store.add("t.o", bytes)?;
+    for (name, bytes) in files {
+        store.add(name, bytes)?;
     }
     if let Some(call) = failing.store {
         store.fail_call(call)?;
@@ -104,17 +104,30 @@ fn run_with<L: Ledger>(
     Ok(Ran { status, text, out })
 }
 
-// Runs the words over a store with the file `t.o`.
+// Does what the words say over a store with these files.
+pub fn done(
+    alloc: Global,
+    files: &[(&str, &[u8])],
+    words: &[&str],
+    failing: Failing,
+) -> Result<Ran, Fail> {
+    run_with::<Brand>(Blank::new(1), alloc, files, words, failing)
+}
+
+// Does what the words say over a store with the file `t.o`, if it is given.
 fn outcome(
     alloc: Global,
     file: Option<&[u8]>,
     words: &[&str],
     failing: Failing,
 ) -> Result<Ran, Fail> {
-    run_with::<Brand>(Blank::new(1), alloc, file, words, failing)
+    match file {
+        Some(bytes) => done(alloc, &[("t.o", bytes)], words, failing),
+        None => done(alloc, &[], words, failing),
+    }
 }
 
-const LINK: [&str; 4] = ["link", "-o", "x", "t.o"];
+pub const LINK: [&str; 4] = ["link", "-o", "x", "t.o"];
 
 /// The smallest executable up to its entry, and from there to the end of its program header.
 const EXECUTABLE: [&str; 2] = [
@@ -123,7 +136,7 @@ const EXECUTABLE: [&str; 2] = [
 ];
 
 // The smallest executable, of 65,548 bytes, with this entry.
-fn executable(alloc: Global, entry: u64) -> Result<Vec<u8>, Fail> {
+pub fn executable(alloc: Global, entry: u64) -> Result<Vec<u8>, Fail> {
     let [front, back] = EXECUTABLE;
     let mut bytes = hex::decode(alloc, front)?;
     bytes.extend_from_slice(&entry.to_le_bytes())?;
@@ -146,43 +159,21 @@ fn the_smallest_object_links(rt: HostRuntime) -> Result<(), Fail> {
 }
 
 #[test]
-fn the_entry_is_an_offset_into_the_text(rt: HostRuntime) -> Result<(), Fail> {
-    let object = changed(rt.alloc(), 80 + 24 + 8, 4)?;
-    let ran = outcome(rt.alloc(), Some(&object), &LINK, SOUND)?;
-    assert_eq!(rt; ran.status, 0);
-    assert!(rt; ran.out == Some(executable(rt.alloc(), 0x1000_0004)?));
-    Ok(())
-}
-
-#[test]
-fn other_objects_are_refused_with_a_line(rt: HostRuntime) -> Result<(), Fail> {
-    let aligned = changed(rt.alloc(), 176 + 64 + 48, 8)?;
-    let ran_aligned = outcome(rt.alloc(), Some(&aligned), &LINK, SOUND)?;
-    assert_eq!(rt; ran_aligned.status, 1);
-    assert_eq!(rt;
-        ran_aligned.text.as_slice(),
-        b"ppclink: t.o: not built yet\n".as_slice()
-    );
-    assert!(rt; ran_aligned.out.is_none());
-    let object = smallest(rt.alloc())?;
-    let ran_short = outcome(rt.alloc(), object.get(..3), &LINK, SOUND)?;
-    assert_eq!(rt; ran_short.status, 1);
-    assert_eq!(rt;
-        ran_short.text.as_slice(),
-        b"ppclink: t.o: not an ELF file\n".as_slice()
-    );
-    Ok(())
-}
-
-#[test]
 fn words_outside_the_grammar_are_not_understood(rt: HostRuntime) -> Result<(), Fail> {
     let object = smallest(rt.alloc())?;
-    let words: [&[&str]; 5] = [
+    let words: [&[&str]; 12] = [
         &["link", "t.o"],
         &["link", "-o", "x"],
         &[],
         &["link", "-o", "-x", "t.o"],
         &["link", "-o", "x", ""],
+        &["link", "-o", "x", "t.o", "-x"],
+        &["link", "-o", "x", "-e", "f", "-e", "g", "t.o"],
+        &["link", "-o", "x", "-e", "", "t.o"],
+        &["link", "-o", "x", "-e", "f"],
+        &["link", "-o", "x", "-e"],
+        &["link", "-e", "_start", "-o", "x", "t.o"],
+        &["link", "-o", "x", "t.o", "-e", "_start"],
     ];
     for list in words {
         let ran = outcome(rt.alloc(), Some(&object), list, SOUND)?;
@@ -269,6 +260,9 @@ fn foreign_objects_are_refused_with_their_place(rt: HostRuntime) -> Result<(), F
         let shown = outcome(rt.alloc(), Some(&object), &SHOW, SOUND)?;
         assert_eq!(rt; shown.status, 1);
         assert!(rt; shown.text.as_slice() == line.as_bytes());
+        let linked = outcome(rt.alloc(), Some(&object), &LINK, SOUND)?;
+        assert_eq!(rt; linked.status, 1);
+        assert!(rt; linked.text.as_slice() == line.as_bytes());
     }
     Ok(())
 }
@@ -285,6 +279,9 @@ fn truncated_objects_are_refused(rt: HostRuntime) -> Result<(), Fail> {
         let shown = outcome(rt.alloc(), object.get(..length), &SHOW, SOUND)?;
         assert_eq!(rt; shown.status, 1);
         assert!(rt; shown.text.as_slice() == line.as_bytes());
+        let linked = outcome(rt.alloc(), object.get(..length), &LINK, SOUND)?;
+        assert_eq!(rt; linked.status, 1);
+        assert!(rt; linked.text.as_slice() == line.as_bytes());
     }
     Ok(())
 }

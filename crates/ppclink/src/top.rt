@@ -3,11 +3,12 @@ ghost use Rattle.std.specs.Prelude.{◌≡◌, ◌≢◌, ◌⊎◌, ◌<◌, �
 ghost use Rattle.ppc_outside.specs.Outside.{HasRisen};
 ghost use Rattle.ppclink.specs.Requests.{Request, request_of, texts};
 ghost use Rattle.ppclink.specs.Lines.{usage_line, unread_line};
-ghost use Rattle.ppclink.specs.Outcomes.{Outcome};
+ghost use Rattle.ppclink.specs.Printed.{Outcome};
 ghost use Rattle.ppclink.specs.Causes.{outside, SameFiles};
-ghost use Rattle.ppclink.specs.Statuses.{IsOr, Shows, ShowsNothing, ShowsPart, CannotRead, IsUnread, IsRefused, IsDone, IsUnwritten, KeepsFiles, SparesOthers, Settles, IsQuiet, status_of, Ends};
+ghost use Rattle.ppclink.specs.Statuses.{IsOr, Shows, ShowsNothing, ShowsPart, CannotRead, IsUnread, IsPrinted, IsDone, IsUnwritten, KeepsFiles, SparesOthers, Settles, IsQuiet, status_of, Ends};
 
-use crate::perform::{Answer, perform};
+use crate::answer::Answer;
+use crate::perform::perform;
 use link_engine::Steps;
 use ppc_outside::{Console, OutsideError, Store};
 use std::alloc::Global;
@@ -32,7 +33,7 @@ fn ending<C: Console>(console: &mut C, answer: &Answer) -> u8
 /// Does what the words say, over files and a console, and gives the exit status.
 ///
 /// 0: done. 1: a file or the link is refused. 2: the words aren't understood. 3: a file can't be read. 4: a file or the console
-/// can't be written. 5: memory was refused.
+/// can't be written. 5: memory was refused. 6: a run left. 7: a run took all its steps without an end.
 pub fn command<S: Store, C: Console, L: Ledger>(
     alloc: Global,
     words: &Vec<String>,
@@ -40,7 +41,7 @@ pub fn command<S: Store, C: Console, L: Ledger>(
     console: &mut C,
     steps: &mut Steps<L>,
 ) -> u8
-    ensures known { result ≤ 5 }
+    ensures known { result ≤ 7 }
 
     // 2 comes exactly where the words aren't of the grammar, and then nothing is fetched or written.
     ensures usage { result ≡ 2 → request_of (texts words.now.items) ≡ None }
@@ -58,7 +59,11 @@ pub fn command<S: Store, C: Console, L: Ledger>(
     ensures unwritten_text { result ≡ 4 → ShowsPart (C.told console.old) (C.told console.new) }
 
     // 1 comes only where the request is refused, with the line of the refusal.
-    ensures refused { result ≡ 1 → (line : List ℕ) × IsRefused (outside (S.told store.old) (S.faults store.old) (S.write_faults store.old)) (outside (S.told store.new) (S.faults store.new) (S.write_faults store.new)) (request_of (texts words.now.items)) line × Shows (C.told console.old) (C.told console.new) line }
+    ensures refused { result ≡ 1 → (line : List ℕ) × IsPrinted (outside (S.told store.old) (S.faults store.old) (S.write_faults store.old)) (outside (S.told store.new) (S.faults store.new) (S.write_faults store.new)) (request_of (texts words.now.items)) 1 line × Shows (C.told console.old) (C.told console.new) line }
+
+    // 6 comes only where a run left, and 7 only where one took all its steps without an end, with the lines of the run.
+    ensures left { result ≡ 6 → (text : List ℕ) × IsPrinted (outside (S.told store.old) (S.faults store.old) (S.write_faults store.old)) (outside (S.told store.new) (S.faults store.new) (S.write_faults store.new)) (request_of (texts words.now.items)) 6 text × Shows (C.told console.old) (C.told console.new) text }
+    ensures unended { result ≡ 7 → (text : List ℕ) × IsPrinted (outside (S.told store.old) (S.faults store.old) (S.write_faults store.old)) (outside (S.told store.new) (S.faults store.new) (S.write_faults store.new)) (request_of (texts words.now.items)) 7 text × Shows (C.told console.old) (C.told console.new) text }
 
     // 0 comes only where the request was done. Where memory is refused nothing is printed.
     ensures done { result ≡ 0 → IsDone (outside (S.told store.old) (S.faults store.old) (S.write_faults store.old)) (outside (S.told store.new) (S.faults store.new) (S.write_faults store.new)) (C.told console.old) (C.told console.new) (request_of (texts words.now.items)) }

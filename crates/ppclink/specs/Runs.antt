@@ -1,0 +1,115 @@
+-- What a run of an executable comes to, and what is printed of it.
+use Rattle.std.specs.Prelude.{ℕ, ◌≡◌, ◌≢◌, ◌⊎◌, ◌==◌, false, List, [], ◌∷◌, ◌++◌, length, codes, decimal, nat_lt, Option, Some, None, if◌then◌else◌}
+use Rattle.std.specs.Fmt.{digits}
+use Rattle.hex.specs.Hex.{encode_lower}
+use Rattle.elf64_exec.specs.declared.layout.Segment.{Segment}
+use Rattle.elf64_exec.specs.declared.layout.ExecFault.{ExecFault}
+use Rattle.elf64_exec.specs.declared.layout.ExecFault.TheVariants.{NotElf, NotExec, BadSegment, Memory}
+use Rattle.elf64_exec.specs.Loading.{HasFault, Loads}
+use Rattle.power_machine.specs.declared.reason.Reason.{Reason}
+use Rattle.power_machine.specs.declared.reason.Reason.TheVariants as why
+use Rattle.power_machine.specs.declared.world.Event.{Event}
+use Rattle.power_machine.specs.declared.machine.Outcome.{Outcome as Ending}
+use Rattle.power_machine.specs.declared.machine.Outcome.TheVariants as ending
+use Rattle.power_machine.specs.Calls.{Run}
+use Rattle.power_machine.specs.Start.{start_state, start_ranges}
+use Rattle.power_machine.specs.Steps.{Progress, Going, Done, Gone, Reaches}
+use Rattle.elf64_records.specs.First.{◌orelse◌}
+use Rattle.ppclink.specs.Lines.{about}
+use Rattle.ppclink.specs.Printed.{Outcome, printed}
+
+-- the most bytes that an executable may have, and that its input may have
+abbrev pub image_limit : ℕ
+image_limit = 0x60000000
+
+abbrev pub input_limit : ℕ
+input_limit = 0x1000000
+
+-- the line for a file of more bytes than it may have
+abbrev pub too_long : ℕ → List ℕ → List ℕ → Option (List ℕ)
+too_long limit name b = if nat_lt limit (length b) then Some (about name [] (codes "file too long")) else None
+
+-- the line for the first file that is too long: the input where there is one, then the executable
+abbrev pub long_line : List ℕ → Option (List ℕ) → List ℕ → List ℕ → Option (List ℕ)
+long_line image None file given = too_long image_limit image file
+long_line image (Some input) file given = too_long input_limit input given orelse too_long image_limit image file
+
+-- the line for a file that isn't an executable; want of memory has none
+abbrev pub exec_line : List ℕ → ExecFault → List ℕ
+exec_line name NotElf = about name [] (codes "not an executable")
+exec_line name NotExec = about name [] (codes "not an executable")
+exec_line name (BadSegment i) = about name (codes " segment " ++ decimal i) (codes "bad segment")
+exec_line name Memory = []
+
+abbrev pub reason_name : Reason → List ℕ
+reason_name why.Fetch = codes "fetch"
+reason_name why.Word = codes "word"
+reason_name why.Load = codes "load"
+reason_name why.Store = codes "store"
+reason_name why.Divide = codes "divide"
+reason_name why.Call = codes "call"
+reason_name why.Value = codes "value"
+reason_name why.Toc = codes "toc"
+reason_name why.Restore = codes "restore"
+reason_name why.Prologue = codes "prologue"
+reason_name why.Part = codes "part"
+reason_name why.Pair = codes "pair"
+
+-- the line of a call: of a read the descriptor, the length and the bytes, of a write the descriptor and the bytes
+abbrev pub event_line : Event → List ℕ
+event_line e =
+    if e.number == 3
+    then codes "read " ++ decimal e.fd ++ codes " " ++ decimal e.length ++ codes " " ++ encode_lower e.bytes ++ codes "\n"
+    else codes "write " ++ decimal e.fd ++ codes " " ++ encode_lower e.bytes ++ codes "\n"
+
+abbrev pub event_lines : List Event → List ℕ
+event_lines [] = []
+event_lines (e ∷ events) = event_line e ++ event_lines events
+
+-- the last line: how the run ended, why and at which address it left, or that it took all its steps
+abbrev pub exit_line : ℕ → List ℕ
+exit_line status = codes "exit " ++ decimal status ++ codes "\n"
+
+abbrev pub left_line : Reason → ℕ → List ℕ
+left_line reason at = codes "left " ++ reason_name reason ++ codes " 0x" ++ digits 16 false at ++ codes "\n"
+
+abbrev pub budget_line : List ℕ
+budget_line = codes "budget\n"
+
+-- the same from the calls and the end of a run
+abbrev pub Reports : List Event → Ending → ℕ → List ℕ → Type 0
+Reports events (ending.Exited status) s text = (s ≡ 0) × (text ≡ event_lines events ++ exit_line status)
+Reports events (ending.Left reason at) s text = (s ≡ 6) × (text ≡ event_lines events ++ left_line reason at)
+Reports events ending.Budget s text = (s ≡ 7) × (text ≡ event_lines events ++ budget_line)
+Reports events ending.Memory s text = ⊥
+
+-- what is printed of a run, and the status
+abbrev pub progress_outcome : Progress → Outcome
+progress_outcome (Done status r) = printed 0 (event_lines r.events ++ exit_line status)
+progress_outcome (Gone reason at r) = printed 6 (event_lines r.events ++ left_line reason at)
+progress_outcome (Going r) = printed 7 (event_lines r.events ++ budget_line)
+
+-- a program at its start, with this input and with no answers but whole ones
+abbrev pub start_run : ℕ → List Segment → List ℕ → Run
+start_run entry segments input = record { state = start_state entry segments; input = input; answers = []; events = []; ended = None }
+
+-- the file is an executable that comes to this in at most so many steps
+pub record RunsTo (file input : List ℕ) (budget : ℕ) (outcome : Outcome) : Type 0 where
+  pub entry : ℕ
+  pub segments : List Segment
+  pub progress : Progress
+  pub loads : Loads file entry segments
+  pub reaches : Reaches (start_ranges segments) budget (start_run entry segments input) progress
+  pub is : progress_outcome progress ≡ outcome
+
+-- the file is no executable
+pub record IsNoProgram (name file : List ℕ) (outcome : Outcome) : Type 0 where
+  pub fault : ExecFault
+  pub has : HasFault file fault
+  pub real : fault ≢ Memory
+  pub is : printed 1 (exec_line name fault) ≡ outcome
+
+-- a file that is too long is refused, and else it is read and run
+abbrev pub Executes : List ℕ → List ℕ → List ℕ → ℕ → Option (List ℕ) → Outcome → Type 0
+Executes name file input budget (Some text) outcome = printed 1 text ≡ outcome
+Executes name file input budget None outcome = IsNoProgram name file outcome ⊎ RunsTo file input budget outcome
