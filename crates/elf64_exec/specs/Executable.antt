@@ -4,6 +4,7 @@ use Rattle.std.specs.Prelude.{ℕ, ◌+◌, ◌-◌, ◌*◌, ◌/◌, ◌<◌, 
 use Rattle.std.specs.List.{All, AllPairs, HoldsAt}
 use Rattle.byteorder.specs.Endian.{little_bytes}
 use Rattle.elf64_exec.specs.declared.layout.Segment.{Segment}
+use Rattle.elf64_exec.specs.declared.memory_map.TheConstants.{MEMORY_END, PAGE}
 
 -- numbers of two, four and eight bytes, the lowest byte first
 unfoldable pub half : ℕ → List ℕ
@@ -47,14 +48,14 @@ program_header offset s =
     ++ long s.address  -- p_paddr
     ++ long (length s.bytes)  -- p_filesz
     ++ long s.size  -- p_memsz
-    ++ long 0x10000  -- p_align
+    ++ long PAGE  -- p_align
 
--- the least multiple of 0x10000 from n on
+-- the least multiple of the page from n on
 abbrev pub page_up : ℕ → ℕ
-page_up n = (n + 0xFFFF) / 0x10000 * 0x10000
+page_up n = (n + (PAGE - 1)) / PAGE * PAGE
 
 -- the program headers of segments, where the file has so many bytes before the bytes of the first: each
--- segment's bytes stand at the next multiple of 0x10000
+-- segment's bytes stand at the next page
 abbrev pub program_headers : ℕ → List Segment → List ℕ
 program_headers end [] = []
 program_headers end (s ∷ rest) =
@@ -88,7 +89,7 @@ end_of s = s.address + s.size
 -- a segment isn't empty, ends within the memory of a program, and has no more bytes than its size
 pub record IsSound (s : Segment) : Type 0 where
   pub some : 0 < s.size
-  pub below : end_of s ≤ 0x70000000
+  pub below : end_of s ≤ MEMORY_END
   pub held : length s.bytes ≤ s.size
 
 -- one segment ends before another begins

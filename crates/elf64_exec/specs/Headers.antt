@@ -1,6 +1,7 @@
 -- One program header as the reader holds it.
 use Rattle.std.specs.Prelude.{ℕ, ◌≡◌, ◌+◌, ◌≤◌, List}
 use Rattle.ppc_bytes.specs.Bytes.{number_at}
+use Rattle.elf64_exec.specs.declared.memory_map.TheConstants.{MEMORY_END}
 use Rattle.elf64_exec.specs.declared.reading.ProgramHeader.{ProgramHeader}
 
 -- it has the fields that stand at a place of the file
@@ -16,5 +17,5 @@ pub record IsHeaderAt (file : List ℕ) (at : ℕ) (h : ProgramHeader) : Type 0 
 pub record CanFollow (length top : ℕ) (h : ProgramHeader) : Type 0 where
   pub inside : h.offset + h.stored ≤ length
   pub held : h.stored ≤ h.size
-  pub below : h.address + h.size ≤ 0x70000000
+  pub below : h.address + h.size ≤ MEMORY_END
   pub after : top ≤ h.address

@@ -5,6 +5,7 @@ use Rattle.std.specs.List.{filter_map, range_with_len}
 use Rattle.ppc_bytes.specs.Bytes.{number_at}
 use Rattle.ppc_bytes.specs.Elf.{HasMagic, IsPpc64Le}
 use Rattle.elf64_exec.specs.declared.layout.Segment.{Segment}
+use Rattle.elf64_exec.specs.declared.memory_map.TheConstants.{MEMORY_END}
 use Rattle.elf64_exec.specs.declared.layout.ExecFault.{ExecFault}
 use Rattle.elf64_exec.specs.declared.layout.ExecFault.TheVariants.{NotElf, NotExec, BadSegment, Memory}
 
@@ -72,7 +73,7 @@ load_end file i = p_vaddr file i + p_memsz file i
 pub record CanLoad (file : List ℕ) (i : ℕ) : Type 0 where
   pub inside : p_offset file i + p_filesz file i ≤ length file
   pub held : p_filesz file i ≤ p_memsz file i
-  pub below : load_end file i ≤ 0x70000000
+  pub below : load_end file i ≤ MEMORY_END
   pub after : (j : ℕ) → j < i → IsLoad file j → load_end file j ≤ p_vaddr file i
 
 -- every other header is skipped

@@ -5,11 +5,13 @@
 
 mod laws;
 mod layout;
+mod memory_map;
 mod reading;
 mod writing;
 
 pub use laws::{faults_are_one, loaded_has_no_fault, written_loads};
 pub use layout::{ExecFault, Segment, Segments};
+pub use memory_map::{IMAGE_START, MEMORY_END, PAGE, READ_ONLY, TEXT, WRITABLE};
 pub use reading::read_exec;
 pub use writing::write_exec;
 

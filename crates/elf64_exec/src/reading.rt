@@ -7,11 +7,9 @@ ghost use Rattle.elf64_exec.specs.Loading.{e_phoff, e_phnum, IsExecHeader, IsGoo
 ghost use Rattle.elf64_exec.specs.Headers.{IsHeaderAt, CanFollow};
 
 use crate::layout::{ExecFault, Segment, Segments};
+use crate::memory_map::MEMORY_END;
 use ppc_bytes::{Bytes, half_at, has_magic, is_ppc64_le, long_at, word_at};
 use std::alloc::Global;
-
-/// The end of the memory that a program may have.
-const LIMIT: u64 = 0x7000_0000;
 
 /// The program header type of bytes to be loaded.
 const PT_LOAD: u32 = 1;
@@ -98,8 +96,8 @@ impl ProgramHeader {
         self.offset <= length
             && self.stored <= length - self.offset
             && self.stored <= self.size
-            && self.address <= LIMIT
-            && self.size <= LIMIT - self.address
+            && self.address <= MEMORY_END
+            && self.size <= MEMORY_END - self.address
             && top <= self.address
     }
 

@@ -3,6 +3,7 @@ ghost use Rattle.std.specs.Prelude.{◌≡◌, ◌+◌, ◌*◌, ◌^◌, ◌<�
 ghost use Rattle.elf64_exec.specs.Executable.{identification, half, word, long, file_header, program_header, page_up, file_end, program_headers, contents, header_length, executable, ArePlaced, IsImage};
 
 use crate::layout::{Segment, Segments};
+use crate::memory_map::PAGE;
 use ppc_bytes::{Memory, align_up};
 use std::alloc::Global;
 
@@ -11,9 +12,6 @@ const FILE_HEADER: usize = 64;
 
 /// The bytes of a program header (gABI, "Program Header").
 const PROGRAM_HEADER: usize = 56;
-
-/// The alignment of segments, in the file and in memory.
-const PAGE: u64 = 0x10000;
 
 /// What an executable's file header begins with (gABI, "ELF Identification").
 const IDENTIFICATION: [u8; 16] = [0x7F, 0x45, 0x4C, 0x46, 2, 1, 1, 0, 0, 0, 0, 0, 0, 0, 0, 0];
@@ -123,7 +121,7 @@ fn push_program_headers(file: &mut Vec<u8>, list: &[Segment]) -> Result<usize, M
 fn push_contents(file: &mut Vec<u8>, list: &[Segment]) -> Result<(), Memory>
     requires placed { ArePlaced list.now }
     requires few { length list.now ≤ 3 }
-    requires start { length file.old.items ≤ 0x10000 }
+    requires start { length file.old.items ≤ PAGE }
     ensures { OnOk result (file.new.items ≡ file.old.items ++ contents (length file.old.items) list.now) }
 {
     for segment in list {
