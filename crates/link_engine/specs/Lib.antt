@@ -1,2 +1,4 @@
 pub mod Stage
+pub mod Options
 pub mod Link
+pub mod laws

@@ -1,9 +1,10 @@
 // Files become an executable.
-ghost use Rattle.std.specs.Prelude.{◌≡◌, ◌⊎◌, ◌≤◌, ◌<◌, length, Some, None, IfOk, IfErr, OnOk};
+ghost use Rattle.std.specs.Prelude.{◌≡◌, ◌⊎◌, ◌≤◌, ◌<◌, length, None, Ok, Err, IfOk, IfErr};
 ghost use Rattle.object_set.specs.Files.{contents_of};
 ghost use Rattle.object_set.specs.Refusals.{Answers, set_refusal};
 ghost use Rattle.link_engine.specs.Stage.{not_built, text_of, IsEntered};
-ghost use Rattle.link_engine.specs.Link.{InRange, entry_of, first_refusal, image_of, image_at};
+ghost use Rattle.link_engine.specs.Options.{InRange};
+ghost use Rattle.link_engine.specs.Link.{LinksTo, first_refusal, image_of, image_at};
 
 use crate::files::{Linked, Options};
 use crate::stage::check_built;
@@ -56,13 +57,14 @@ fn only_text<'a>(resolved: &Resolved<'a, '_>) -> &'a [u8]
 }
 
 /// The executable of the files' only kept section, or why there is none.
-fn image_of(alloc: Global, files: &[FileBytes], entry: &[u8]) -> Result<Vec<u8>, Refusal>
+fn image_of(alloc: Global, files: &[FileBytes], options: &Options) -> Result<Vec<u8>, Refusal>
     requires { length files.now ≤ 4096 }
-    ensures refusal { Answers result (first_refusal (contents_of files.now) entry.now) }
-    ensures image { IfOk result (λ image. image.items ≡ image_of (contents_of files.now) entry.now) }
+    ensures refusal { Answers result (first_refusal (contents_of files.now) options.now) }
+    ensures image { IfOk result (λ image.
+        image.items ≡ image_of (contents_of files.now) options.now) }
 {
     let set = ObjectSet::take(alloc, files)?;
-    let resolved = resolve(alloc, &set, entry)?;
+    let resolved = resolve(alloc, &set, options.entry.as_str().as_bytes())?;
     check_built(&set)?;
     match image(alloc, resolved.entry().offset, only_text(&resolved)) {
         Ok(image) => Ok(image),
@@ -82,13 +84,14 @@ pub fn link<L: Ledger>(
     requires some { 1 ≤ length files.now }
     requires few { length files.now ≤ 4096 }
     requires range { InRange options.now }
-    ensures refused { IfErr result (λ r. (r ≡ Refusal.Memory) ⊎ (first_refusal (contents_of files.now) (entry_of options.now) ≡ Some r)) }
-    ensures linked { OnOk result (first_refusal (contents_of files.now) (entry_of options.now) ≡ None) }
-    ensures image { IfOk result (λ l. l.image.items ≡ image_of (contents_of files.now) (entry_of options.now)) }
+    ensures refused { IfErr result (λ r.
+        (r ≡ Refusal.Memory) ⊎ LinksTo (contents_of files.now) options.now (Err r)) }
+    ensures linked { IfOk result (λ l.
+        LinksTo (contents_of files.now) options.now (Ok l.image.items)) }
     ensures counts { IfOk result (λ l. (l.sites ≡ 0) × (l.far ≡ 0) × (l.stub_bytes ≡ 0) × (l.folds ≡ 0)) }
     ensures steps { steps.new ≡ steps.old }
 {
-    let image = image_of(alloc, files, options.entry.as_str().as_bytes())?;
+    let image = image_of(alloc, files, options)?;
     Ok(Linked {
         image,
         sites: 0,

@@ -1,6 +1,7 @@
 // What a link takes and gives.
+use std::marker::Model;
 
-/// How to link.
+/// How to link. Contracts see the entry's name as its bytes.
 #[derive(Debug, Drop)]
 pub struct Options {
     /// The name of the symbol at whose global entry the program starts.
@@ -11,6 +12,19 @@ pub struct Options {
 
     /// How large a TOC group may grow, in bytes: a multiple of 8 from 16 to 0x10000.
     pub toc_span: u32,
+}
+
+impl Model for Options {
+    ghost use Rattle.std.specs.Prelude.{string_bytes};
+    ghost use Rattle.link_engine.specs.Options.{LinkOptions};
+
+    ghost Value = { LinkOptions };
+
+    ghost view = { λ o. record {
+      entry = string_bytes o.entry;
+      branch_span = o.branch_span;
+      toc_span = o.toc_span;
+    } };
 }
 
 /// A linked executable, and what the link counted.

@@ -4,10 +4,12 @@
 
 mod engine;
 mod files;
+mod laws;
 mod stage;
 
 pub use engine::link;
 pub use files::{Linked, Options};
+pub use laws::links_are_one;
 pub use object_set::{FileBytes, Refusal, Site};
 pub use ppc_bytes::Steps;
 

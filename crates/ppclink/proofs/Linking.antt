@@ -14,12 +14,13 @@ use Rattle.elf64_records.specs.First.{◌orelse◌}
 use Rattle.object_set.specs.Refusals.{length_refusal, fault_refusal, sections_refusal, symbols_refusal, file_refusal, files_refusal}
 use Rattle.symbol_table.specs.Targets.{resolve_refusal}
 use Rattle.link_engine.specs.Stage.{not_built}
-use Rattle.link_engine.specs.Link.{first_refusal, image_of}
+use Rattle.link_engine.specs.Options.{LinkOptions}
+use Rattle.link_engine.specs.Link.{first_refusal, image_of, LinksTo}
 use Rattle.ppc_outside.specs.Outside.{Files, Replaced}
 use Rattle.ppclink.specs.Requests.{Request, texts, link_to, names_of, out_of, IsLink}
 use Rattle.ppclink.specs.Lines.{refusal_line, unread_line}
 use Rattle.ppclink.specs.Printed.{Outcome, printed, written}
-use Rattle.ppclink.specs.Outcomes.{link_outcome}
+use Rattle.ppclink.specs.Outcomes.{link_outcome, usual_options}
 use Rattle.ppclink.specs.Fetching.{HaveRead, ManyCause, file_limit}
 use Rattle.ppclink.specs.declared.fetching.Unfetched.{Unfetched}
 use Rattle.ppclink.specs.declared.fetching.Unfetched.TheVariants as unfetched
@@ -88,30 +89,29 @@ cut_alike file (c ∷ contents) (whole ∷ wholes) are =
     ]
 
 same_outcome : (out entry : List ℕ) (names contents wholes : List (List ℕ)) → AreCut contents wholes →
-    link_outcome out entry names contents (first_refusal contents entry) ≡ link_outcome out entry names wholes (first_refusal wholes entry)
+    link_outcome out entry names contents (first_refusal contents (usual_options entry)) ≡ link_outcome out entry names wholes (first_refusal wholes (usual_options entry))
 same_outcome out entry names contents wholes are =
     elim (cut_alike 0 contents wholes are) [
-      | inl same ↦ ap (λ l. link_outcome out entry names l (first_refusal l entry)) same
+      | inl same ↦ ap (λ l. link_outcome out entry names l (first_refusal l (usual_options entry))) same
       | inr alike ↦
           ap (λ o. link_outcome out entry names contents (o orelse (resolve_refusal contents entry orelse not_built contents))) alike.1
           ∙ sym (ap (λ o. link_outcome out entry names wholes (o orelse (resolve_refusal wholes entry orelse not_built wholes))) alike.2)
     ]
 
 comes : (told : Option Files) (out entry : List ℕ) (names contents : List (List ℕ)) (o : Outcome) → HaveRead told names contents →
-    link_outcome out entry names contents (first_refusal contents entry) ≡ o → Comes told (link_to out entry names) o
+    link_outcome out entry names contents (first_refusal contents (usual_options entry)) ≡ o → Comes told (link_to out entry names) o
 comes told out entry names contents o read is =
     let held = wholes_read told names contents read in
     comes_held told (link_to out entry names) held.0 o held.1 (sym (same_outcome out entry names contents held.0 held.2) ∙ is)
 
-pub comes_printed : (told : Option Files) (out entry : List ℕ) (names contents : List (List ℕ)) (r : Refusal) → HaveRead told names contents → first_refusal contents entry ≡ Some r →
+pub comes_printed : (told : Option Files) (out entry : List ℕ) (names contents : List (List ℕ)) (r : Refusal) → HaveRead told names contents → first_refusal contents (usual_options entry) ≡ Some r →
     Comes told (link_to out entry names) (printed 1 (refusal_line names r))
 comes_printed told out entry names contents r read is = comes told out entry names contents _ read (ap (link_outcome out entry names contents) is)
 
-pub comes_written : (told : Option Files) (out entry entry' image : List ℕ) (names contents : List (List ℕ)) → entry' ≡ entry → HaveRead told names contents → first_refusal contents entry' ≡ None →
-    image ≡ image_of contents entry' → Comes told (link_to out entry names) (written out image)
-comes_written told out entry entry' image names contents same read is image-is =
-    let passes : first_refusal contents entry ≡ None = ap (first_refusal contents) (sym same) ∙ is in
-    let made : image_of contents entry ≡ image = ap (image_of contents) (sym same) ∙ sym image-is in
+pub comes_written : (told : Option Files) (out entry image : List ℕ) (options : LinkOptions) (names contents : List (List ℕ)) → options ≡ usual_options entry → HaveRead told names contents → LinksTo contents options (Ok image) → Comes told (link_to out entry names) (written out image)
+comes_written told out entry image options names contents same read is =
+    let passes : first_refusal contents (usual_options entry) ≡ None = ap (first_refusal contents) (sym same) ∙ is.passes in
+    let made : image_of contents (usual_options entry) ≡ image = ap (image_of contents) (sym same) ∙ is.made in
     comes told out entry names contents _ read (ap (link_outcome out entry names contents) passes ∙ ap (written out) made)
 
 -- a replace that found no memory changed nothing
@@ -132,10 +132,10 @@ same_files None = tt
 same_files (Some files) = λ name. refl
 
 -- the line of a refusal, or want of memory for it
-pub refuse_causes : (told : Option Files) (f w : ℕ) (out entry entry' : List ℕ) (names contents : List (List ℕ)) (r : Refusal) (text : Result (Vec ℕ Global) NoMem) (a : Answer) → entry' ≡ entry → HaveRead told names contents → (r ≡ Memory') ⊎ (first_refusal contents entry' ≡ Some r) → IfOk text (λ t. t.items ≡ refusal_line names r) → OnOk text (r ≢ Memory') → MatchResult text (λ t. a ≡ Printed 1 t) (λ e. a ≡ NoMemory) → Causes (outside told f w) (outside told f w) (Some (link_to out entry names)) a
-refuse_causes told f w out entry entry' names contents r (Err e) a same read refused line stated is = subst (λ b. Causes (outside told f w) (outside told f w) (Some (link_to out entry names)) b) (sym is) (omega arith, refl, same_files told)
-refuse_causes told f w out entry entry' names contents r (Ok t) a same read (inl memory) line stated is = absurd (stated memory)
-refuse_causes told f w out entry entry' names contents r (Ok t) a same read (inr h) line stated is =
+pub refuse_causes : (told : Option Files) (f w : ℕ) (out entry : List ℕ) (options : LinkOptions) (names contents : List (List ℕ)) (r : Refusal) (text : Result (Vec ℕ Global) NoMem) (a : Answer) → options ≡ usual_options entry → HaveRead told names contents → (r ≡ Memory') ⊎ (first_refusal contents options ≡ Some r) → IfOk text (λ t. t.items ≡ refusal_line names r) → OnOk text (r ≢ Memory') → MatchResult text (λ t. a ≡ Printed 1 t) (λ e. a ≡ NoMemory) → Causes (outside told f w) (outside told f w) (Some (link_to out entry names)) a
+refuse_causes told f w out entry options names contents r (Err e) a same read refused line stated is = subst (λ b. Causes (outside told f w) (outside told f w) (Some (link_to out entry names)) b) (sym is) (omega arith, refl, same_files told)
+refuse_causes told f w out entry options names contents r (Ok t) a same read (inl memory) line stated is = absurd (stated memory)
+refuse_causes told f w out entry options names contents r (Ok t) a same read (inr h) line stated is =
     let printed-is = comes_printed told out entry names contents r read (ap (first_refusal contents) (sym same) ∙ h) in
     let here = subst (λ l. Comes told (link_to out entry names) (printed 1 l)) (sym line) printed-is in
     subst (λ b. Causes (outside told f w) (outside told f w) (Some (link_to out entry names)) b) (sym is) (record { told = refl; write_faults = refl; faults = omega arith }, inr (inl (omega arith), refl, here))

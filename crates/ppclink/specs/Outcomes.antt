@@ -1,6 +1,7 @@
 -- What a request comes to, given what the files hold.
 use Rattle.std.specs.Prelude.{ℕ, ◌≡◌, List, [], ◌∷◌, map, Option, Some, None, unwrap_or}
 use Rattle.ppc_outside.specs.Outside.{Files}
+use Rattle.link_engine.specs.Options.{LinkOptions}
 use Rattle.link_engine.specs.Link.{first_refusal, image_of}
 use Rattle.object_set.specs.declared.refusal.Refusal.{Refusal}
 use Rattle.ppclink.specs.Printed.{Outcome, printed, written}
@@ -11,10 +12,14 @@ use Rattle.object_set.specs.Refusals.{length_refusal, fault_refusal}
 use Rattle.ppclink.specs.Show.{shown}
 use Rattle.ppclink.specs.Lines.{refusal_line, unread_line}
 
+-- how to link with an entry, where nothing else is asked for
+abbrev pub usual_options : List ℕ → LinkOptions
+usual_options entry = record { entry = entry; branch_span = 0x2000000; toc_span = 0x10000 }
+
 -- a link of these contents with an entry
 abbrev pub link_outcome : List ℕ → List ℕ → List (List ℕ) → List (List ℕ) → Option Refusal → Outcome
 link_outcome out entry names contents (Some refusal) = printed 1 (refusal_line names refusal)
-link_outcome out entry names contents None = written out (image_of contents entry)
+link_outcome out entry names contents None = written out (image_of contents (usual_options entry))
 
 -- why an object file can't be shown
 abbrev pub view_refusal : List ℕ → Option Refusal
@@ -33,7 +38,7 @@ RunComes image input budget contents outcome = ⊥
 
 -- what a request comes to where the files that it names have these contents
 abbrev pub ComesTo : Request → List (List ℕ) → Outcome → Type 0
-ComesTo (link_to out entry files) contents outcome = link_outcome out entry files contents (first_refusal contents entry) ≡ outcome
+ComesTo (link_to out entry files) contents outcome = link_outcome out entry files contents (first_refusal contents (usual_options entry)) ≡ outcome
 ComesTo (show_file files) [] outcome = ⊥
 ComesTo (show_file files) (b ∷ contents) outcome = show_outcome files b (view_refusal b) ≡ outcome
 ComesTo (run_image image input budget) contents outcome = RunComes image input budget contents outcome

@@ -1,11 +1,11 @@
 // What the command does over the files, before it prints.
 ghost use Rattle.std.specs.Prelude.{◌≡◌, ◌≤◌, length, Some, Ok, Err, None, IfOk, IfErr, OnOk};
-ghost use Rattle.ppclink.specs.Outcomes.{view_refusal};
+ghost use Rattle.ppclink.specs.Outcomes.{view_refusal, usual_options};
 ghost use Rattle.ppclink.specs.Requests.{request_of, texts, link_to, show_file};
 ghost use Rattle.ppclink.specs.Causes.{outside, Causes, AnswersReplace, AnswersShow};
 ghost use Rattle.ppclink.specs.Fetching.{HaveRead};
 ghost use Rattle.object_set.specs.Files.{contents_of};
-ghost use Rattle.link_engine.specs.Link.{InRange, entry_of};
+ghost use Rattle.link_engine.specs.Options.{InRange};
 
 use crate::answer::{Answer, printed};
 use crate::fetching::{FILE_LIMIT, Unfetched, fetch_files, only};
@@ -35,7 +35,7 @@ fn write_out<S: Store>(out: &str, image: &[u8], store: &mut S) -> Answer
 // The options of a link with this entry.
 fn options_of(alloc: Global, entry: &str) -> Result<Options, Memory>
     ensures range { IfOk result InRange }
-    ensures entry { IfOk result (λ o. entry_of o ≡ entry.now) }
+    ensures usual { IfOk result (λ o. o ≡ usual_options entry.now) }
 {
     Ok(Options {
         entry: String::from_str(alloc, entry)?,

@@ -1,6 +1,7 @@
-use Rattle.std.proofs.Common.{◌∙◌, refl}
+use Rattle.std.proofs.Common.{refl, sym, subst}
+use Rattle.std.specs.Prelude.{Ok}
 use Rattle.object_set.specs.Files.{contents_of}
-use Rattle.link_engine.specs.Link.{entry_of}
+use Rattle.link_engine.specs.Link.{LinksTo}
 use Rattle.ppclink.specs.Requests.{texts}
 use Rattle.ppclink.proofs.Linking.{comes_written, write_causes, refuse_causes}
 use Rattle.ppclink.proofs.perform.link_fetched.Goals as goal
@@ -8,11 +9,12 @@ use Rattle.ppclink.proofs.perform.link_fetched.Goals as goal
 pub returns-in-Ok-link-clause-causes : goal.returns-in-Ok-link-clause-causes
 returns-in-Ok-link-clause-causes g c =
     write_causes _ _ _ _ _ _ c.args.out.now _ _ c.write_out.result tt refl
-    (comes_written _ c.args.out.now c.args.entry.now (entry_of c.in-Ok.options) _ (texts c.args.names.now) (contents_of c.args.files.now) c.in-Ok.ensures.entry c.requires.read c.in-Ok-link.ensures.linked (c.as_slice.ensures.value ∙ c.in-Ok-link.ensures.image))
+    (comes_written _ c.args.out.now c.args.entry.now _ c.in-Ok.options (texts c.args.names.now) (contents_of c.args.files.now) c.in-Ok.ensures.usual c.requires.read
+    (subst (λ i. LinksTo (contents_of c.args.files.now) c.in-Ok.options (Ok i)) (sym c.as_slice.ensures.value) c.in-Ok-link.ensures.linked))
     c.write_out.ensures
 
 pub returns : goal.returns
 returns g c = record {
-  causes = refuse_causes _ _ _ c.args.out.now c.args.entry.now (entry_of c.in-Ok.options) (texts c.args.names.now) (contents_of c.args.files.now) c.in-Err.refusal c.refusal_line.result c.printed.result c.in-Ok.ensures.entry c.requires.read c.in-Err.ensures.refused c.refusal_line.ensures.line c.refusal_line.ensures.stated c.printed.ensures;
+  causes = refuse_causes _ _ _ c.args.out.now c.args.entry.now c.in-Ok.options (texts c.args.names.now) (contents_of c.args.files.now) c.in-Err.refusal c.refusal_line.result c.printed.result c.in-Ok.ensures.usual c.requires.read c.in-Err.ensures.refused c.refusal_line.ensures.line c.refusal_line.ensures.stated c.printed.ensures;
   steps = c.link.ensures.steps;
 }
