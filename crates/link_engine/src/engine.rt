@@ -8,20 +8,14 @@ ghost use Rattle.link_engine.specs.Link.{LinksTo, first_refusal, image_of, image
 
 use crate::files::{Linked, Options};
 use crate::stage::check_built;
-use elf64_exec::{Segment, Segments, write_exec};
+use elf64_exec::{IMAGE_START, Segment, Segments, TEXT, write_exec};
 use object_set::{FileBytes, ObjectSet, Refusal};
 use ppc_bytes::{Bytes, Memory, Steps};
 use std::alloc::Global;
 use std::sync::ledger::Ledger;
 use symbol_table::{Resolved, resolve};
 
-/// Where text is loaded.
-const TEXT_START: u64 = 0x1000_0000;
-
-/// The flags of a segment that is read and executed.
-const READ_EXECUTE: u32 = 5;
-
-// The executable that loads a text and starts in it.
+/// The executable that loads a text and starts in it.
 fn image(alloc: Global, start: u64, text: &[u8]) -> Result<Vec<u8>, Memory>
     requires some { 0 < length text.now }
     requires limit { length text.now ≤ 0x10000000 }
@@ -31,13 +25,13 @@ fn image(alloc: Global, start: u64, text: &[u8]) -> Result<Vec<u8>, Memory>
     let text = Vec::from_slice(alloc, text)?;
     let size = text.len() as u64;
     let segment = Segment {
-        flags: READ_EXECUTE,
-        address: TEXT_START,
+        flags: TEXT,
+        address: IMAGE_START,
         bytes: Bytes::of(text),
         size,
     };
     let segments = Segments {
-        entry: TEXT_START + start,
+        entry: IMAGE_START + start,
         list: Vec::from_array(alloc, [segment])?,
     };
     write_exec(alloc, &segments)
