@@ -6,7 +6,7 @@ use Rattle.power_insns.specs.declared.meaning.Width.TheVariants.{Byte, Half, Wor
 use Rattle.power_insns.specs.declared.meaning.Sign.{Sign}
 use Rattle.power_insns.specs.declared.meaning.Sign.TheVariants.{Unsigned, Signed}
 use Rattle.power_insns.specs.declared.meaning.Function.{Function}
-use Rattle.power_insns.specs.declared.meaning.Function.TheVariants.{Sum, Difference, Product, WordProduct, BitAnd, BitAndNot, BitOr, BitNotOr, BitXor, ShiftWordLeft, ShiftWordRight, ShiftLeft, ShiftRight, Extend, Rotate, RotateWord}
+use Rattle.power_insns.specs.declared.meaning.Function.TheVariants.{Sum, RegisterSum, Difference, Product, WordProduct, BitAnd, BitAndNot, BitOr, BitNotOr, BitXor, ShiftWordLeft, ShiftWordRight, ShiftLeft, ShiftRight, Extend, Rotate, RotateWord}
 
 -- how many bytes a number has
 abbrev pub bytes_of : Width → ℕ
@@ -51,6 +51,7 @@ shifted_right bits count n = if nat_lt count bits then n / 2 ^ count else 0
 
 abbrev pub function_of : Function → ℕ → ℕ → ℕ
 function_of Sum x y = (x + y) % 2 ^ 64
+function_of RegisterSum x y = (x + y) % 2 ^ 64
 function_of Difference x y = (x + (2 ^ 64 - y)) % 2 ^ 64
 function_of Product x y = x * y % 2 ^ 64
 function_of WordProduct x y = extended (low_number Word Signed x *ℤ low_number Word Signed y)

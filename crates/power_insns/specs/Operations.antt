@@ -6,13 +6,14 @@ use Rattle.power_insns.specs.declared.meaning.Width.TheVariants.{Byte, Half, Wor
 use Rattle.power_insns.specs.declared.meaning.Sign.TheVariants.{Unsigned, Signed}
 use Rattle.power_insns.specs.declared.meaning.Operand.{Operand}
 use Rattle.power_insns.specs.declared.meaning.Operand.TheVariants.{Register, Fixed, Here}
-use Rattle.power_insns.specs.declared.meaning.Function.TheVariants.{Sum, Difference, Product, WordProduct, BitAnd, BitAndNot, BitOr, BitNotOr, BitXor, ShiftWordLeft, ShiftWordRight, ShiftLeft, ShiftRight, Extend, Rotate, RotateWord}
+use Rattle.power_insns.specs.declared.meaning.Function.{Function}
+use Rattle.power_insns.specs.declared.meaning.Function.TheVariants.{Sum, RegisterSum, Difference, Product, WordProduct, BitAnd, BitAndNot, BitOr, BitNotOr, BitXor, ShiftWordLeft, ShiftWordRight, ShiftLeft, ShiftRight, Extend, Rotate, RotateWord}
 use Rattle.power_insns.specs.declared.meaning.Counter.{Counter}
 use Rattle.power_insns.specs.declared.meaning.Counter.TheVariants.{Kept, Lowered}
 use Rattle.power_insns.specs.declared.meaning.Condition.{Condition}
 use Rattle.power_insns.specs.declared.meaning.Condition.TheVariants.{Always, Bit}
-use Rattle.power_insns.specs.declared.meaning.Target.{Target}
-use Rattle.power_insns.specs.declared.meaning.Target.TheVariants.{Ahead, Through}
+use Rattle.power_insns.specs.declared.meaning.BranchTarget.{BranchTarget}
+use Rattle.power_insns.specs.declared.meaning.BranchTarget.TheVariants.{Ahead, Through}
 use Rattle.power_insns.specs.declared.meaning.Operation.{Operation}
 use Rattle.power_insns.specs.declared.meaning.Operation.TheVariants.{Copy, Calculate, Divide, Compare, Load, Store, Branch, System}
 use Rattle.power_insns.specs.declared.instruction.Insn.{Insn}
@@ -45,6 +46,11 @@ or_or_copy ra rs n = if n == 0 then Copy ra (Register rs) false else Calculate B
 -- `or`: RS or RB, which copies RS where they are one register
 abbrev pub register_or : ℕ → ℕ → ℕ → Bool → Operation
 register_or ra rs rb rc = if rs == rb then Copy ra (Register rs) rc else Calculate BitOr ra (Register rs) (Register rb) rc
+
+-- `add`: a function of its own, by which alone a run over other values than numbers may make a place of code; `add.` is a sum like any other
+abbrev pub sum_of_registers : Bool → Function
+sum_of_registers true = Sum
+sum_of_registers false = RegisterSum
 
 -- L chooses 64 bits or the low 32
 abbrev pub compared_width : Bool → Width
@@ -93,7 +99,7 @@ operation_of (Std rs ra ds) = Store Long rs (or_zero ra) (Fixed (extended ds)) N
 operation_of (Stdu rs ra ds) = Store Long rs (or_zero ra) (Fixed (extended ds)) (Some ra)
 operation_of (Cmp bf l ra rb) = Compare bf (compared_width l) Signed (Register ra) (Register rb)
 operation_of (Cmpl bf l ra rb) = Compare bf (compared_width l) Unsigned (Register ra) (Register rb)
-operation_of (Add rt ra rb rc) = Calculate Sum rt (Register ra) (Register rb) rc
+operation_of (Add rt ra rb rc) = Calculate (sum_of_registers rc) rt (Register ra) (Register rb) rc
 operation_of (Subf rt ra rb rc) = Calculate Difference rt (Register rb) (Register ra) rc
 operation_of (Neg rt ra rc) = Calculate Difference rt (Fixed 0) (Register ra) rc
 operation_of (Mullw rt ra rb rc) = Calculate WordProduct rt (Register ra) (Register rb) rc
@@ -135,7 +141,7 @@ abbrev pub NamesUpdate : Option ℕ → Type 0
 NamesUpdate None = Unit {0}
 NamesUpdate (Some r) = r < 34
 
-abbrev pub NamesTarget : Target → Type 0
+abbrev pub NamesTarget : BranchTarget → Type 0
 NamesTarget (Ahead n) = Unit {0}
 NamesTarget (Through r) = r < 34
 

@@ -4,8 +4,8 @@ use Rattle.power_insns.specs.declared.meaning.Operand.{Operand}
 use Rattle.power_insns.specs.declared.meaning.Operand.TheVariants.{Register, Fixed, Here}
 use Rattle.power_insns.specs.declared.meaning.Counter.{Counter}
 use Rattle.power_insns.specs.declared.meaning.Counter.TheVariants.{Kept, Lowered}
-use Rattle.power_insns.specs.declared.meaning.Target.{Target}
-use Rattle.power_insns.specs.declared.meaning.Target.TheVariants.{Ahead, Through}
+use Rattle.power_insns.specs.declared.meaning.BranchTarget.{BranchTarget}
+use Rattle.power_insns.specs.declared.meaning.BranchTarget.TheVariants.{Ahead, Through}
 use Rattle.power_insns.specs.declared.meaning.Operation.{Operation}
 use Rattle.power_insns.specs.declared.meaning.Operation.TheVariants.{Copy, Calculate, Divide, Compare, Load, Store, Branch, System}
 use Rattle.power_insns.specs.declared.uses.Access.{Access}
@@ -24,7 +24,7 @@ Counts Kept r = ⊥
 Counts (Lowered zero) r = count_register ≡ r
 
 -- the branch goes where register r says
-abbrev pub GoesThrough : Target → ℕ → Type 0
+abbrev pub GoesThrough : BranchTarget → ℕ → Type 0
 GoesThrough (Ahead n) r = ⊥
 GoesThrough (Through q) r = q ≡ r
 

@@ -105,7 +105,7 @@ pub fn compute(function: Function, x: u64, y: u64) -> u64
     ensures { result ≡ function_of function x y }
 {
     match function {
-        Function::Sum => x.wrapping_add(y),
+        Function::Sum | Function::RegisterSum => x.wrapping_add(y),
         Function::Difference => x.wrapping_sub(y),
         Function::Product => x.wrapping_mul(y),
         Function::WordProduct => {

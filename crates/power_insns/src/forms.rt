@@ -35,7 +35,7 @@ pub trait Form: Sized + Copy {
 }
 
 impl Form for Insn {
-    ghost use Rattle.power_insns.specs.Laws.{one_word};
+    ghost use Rattle.power_insns.specs.laws.Words.{one_word};
 
     ghost word = { word_of };
 

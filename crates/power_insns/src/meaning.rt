@@ -46,6 +46,9 @@ pub enum Operand {
 pub enum Function {
     /// x + y.
     Sum,
+    /// x + y, of two registers and without a look at the sum: `add` alone. Over numbers it is the sum. Over other values
+    /// a difference of addresses and a number may make a place of code by it, and by no other sum.
+    RegisterSum,
     /// x - y.
     Difference,
     /// The low 64 bits of x * y.
@@ -98,7 +101,7 @@ pub enum Condition {
 
 /// Where a branch goes.
 #[derive(Clone, Copy)]
-pub enum Target {
+pub enum BranchTarget {
     /// To its own address and so many bytes on.
     Ahead(u64),
     /// To the address that a register holds, with its low two bits cleared.
@@ -164,7 +167,7 @@ pub enum Operation {
     Branch {
         counter: Counter,
         condition: Condition,
-        target: Target,
+        target: BranchTarget,
         link: bool,
     },
     /// A call of the system: its number is in r0, its arguments in r3, r4 and r5, its result in r3.

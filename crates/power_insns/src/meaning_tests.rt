@@ -2,9 +2,9 @@
 use crate::compute::{compare, compute, divide, widen};
 use crate::decoding::decode;
 use crate::instruction::Insn;
+use crate::meaning::BranchTarget::{Ahead, Through};
 use crate::meaning::Condition::{Always, Bit};
 use crate::meaning::Counter::{Kept, Lowered};
-use crate::meaning::Target::{Ahead, Through};
 use crate::meaning::{Operand, Operation, Sign, Width};
 use crate::plan::plan_for;
 use crate::uses::{Access, memory, reads, writes};

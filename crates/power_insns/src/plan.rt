@@ -2,15 +2,15 @@
 ghost use Rattle.std.specs.Prelude.{◌≡◌, ◌<◌, ◌*◌, ◌*ℤ◌, pos, ◌^◌};
 ghost use Rattle.power_insns.specs.Arithmetic.{extended, mask};
 ghost use Rattle.power_insns.specs.Table.{Fits};
-ghost use Rattle.power_insns.specs.Operations.{operation_of, or_zero, sum_or_copy, or_or_copy, register_or, compared_width, counter_of, condition_of, special_register, IsWellNamed};
+ghost use Rattle.power_insns.specs.Operations.{operation_of, or_zero, sum_or_copy, or_or_copy, register_or, sum_of_registers, compared_width, counter_of, condition_of, special_register, IsWellNamed};
 ghost use Rattle.power_insns.specs.declared.meaning.Operand.TheVariants.{Register, Fixed};
 ghost use Rattle.power_insns.specs.declared.meaning.Operation.TheVariants.{Copy, Calculate, Divide, Compare, Load, Store, Branch, System};
 
 use crate::compute::mask;
 use crate::instruction::Insn;
 use crate::meaning::{
-    COUNT_REGISTER, Condition, Counter, Function, LINK_REGISTER, Operand, Operation, Sign, Target,
-    Width,
+    BranchTarget, COUNT_REGISTER, Condition, Counter, Function, LINK_REGISTER, Operand, Operation,
+    Sign, Width,
 };
 
 // A signed number as a register holds it.
@@ -104,6 +104,17 @@ fn register_or(ra: u32, rs: u32, rb: u32, rc: bool) -> Operation
             Operand::Register(rb),
             rc,
         )
+    }
+}
+
+// The function of `add`: `add.`, which looks at its sum, is a sum like any other.
+fn sum_of_registers(rc: bool) -> Function
+    ensures { result ≡ sum_of_registers rc }
+{
+    if rc {
+        Function::Sum
+    } else {
+        Function::RegisterSum
     }
 }
 
@@ -218,7 +229,7 @@ fn store(width: Width, from: u32, ra: u32, offset: Operand, update: Option<u32>)
     }
 }
 
-fn branch(counter: Counter, condition: Condition, target: Target, link: bool) -> Operation
+fn branch(counter: Counter, condition: Condition, target: BranchTarget, link: bool) -> Operation
     ensures { result ≡ Branch counter condition target link }
 {
     Operation::Branch {
@@ -264,26 +275,26 @@ pub fn plan_for(insn: &Insn) -> Operation
         Insn::Bc { bo, bi, bd, lk } => branch(
             counter_of(bo),
             condition_of(bo, bi),
-            Target::Ahead(extended(bd)),
+            BranchTarget::Ahead(extended(bd)),
             lk,
         ),
         Insn::Sc => Operation::System,
         Insn::B { li, lk } => branch(
             Counter::Kept,
             Condition::Always,
-            Target::Ahead(extended(li)),
+            BranchTarget::Ahead(extended(li)),
             lk,
         ),
         Insn::Bclr { bo, bi, lk, .. } => branch(
             counter_of(bo),
             condition_of(bo, bi),
-            Target::Through(LINK_REGISTER),
+            BranchTarget::Through(LINK_REGISTER),
             lk,
         ),
         Insn::Bcctr { bo, bi, lk, .. } => branch(
             counter_of(bo),
             condition_of(bo, bi),
-            Target::Through(COUNT_REGISTER),
+            BranchTarget::Through(COUNT_REGISTER),
             lk,
         ),
         Insn::Rlwinm {
@@ -327,7 +338,7 @@ pub fn plan_for(insn: &Insn) -> Operation
         Insn::Stdu { rs, ra, ds } => store(Width::Long, rs, ra, signed(ds), Some(ra)),
         Insn::Cmp { bf, l, ra, rb } => compare(bf, l, Sign::Signed, ra, Operand::Register(rb)),
         Insn::Cmpl { bf, l, ra, rb } => compare(bf, l, Sign::Unsigned, ra, Operand::Register(rb)),
-        Insn::Add { rt, ra, rb, rc } => of_registers(Function::Sum, rt, ra, rb, rc),
+        Insn::Add { rt, ra, rb, rc } => of_registers(sum_of_registers(rc), rt, ra, rb, rc),
         Insn::Subf { rt, ra, rb, rc } => of_registers(Function::Difference, rt, rb, ra, rc),
         Insn::Neg { rt, ra, rc } => calculate(
             Function::Difference,

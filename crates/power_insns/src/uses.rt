@@ -5,7 +5,7 @@ ghost use Rattle.power_insns.specs.Operations.{operation_of};
 ghost use Rattle.power_insns.specs.Uses.{IsRegister, Reads, Writes, access_of};
 
 use crate::instruction::Insn;
-use crate::meaning::{COUNT_REGISTER, Counter, LINK_REGISTER, Operand, Operation, Target};
+use crate::meaning::{BranchTarget, COUNT_REGISTER, Counter, LINK_REGISTER, Operand, Operation};
 use crate::plan::plan_for;
 
 /// What an instruction does with memory.
@@ -48,7 +48,7 @@ fn operation_reads(operation: &Operation, r: u32) -> bool
             ..
         } => {
             (matches!(counter, Counter::Lowered { .. }) && r == COUNT_REGISTER)
-                || matches!(target, Target::Through(q) if q == r)
+                || matches!(target, BranchTarget::Through(q) if q == r)
         }
         Operation::System => r == 0 || r == 3 || r == 4 || r == 5,
     }

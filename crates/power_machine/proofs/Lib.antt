@@ -1,4 +1,3 @@
-mod Opcodes
 mod Answering
 pub mod Places
 pub mod Stepping

@@ -4,9 +4,9 @@ use Rattle.std.proofs.lemmas.List.{append-nil}
 use Rattle.power_machine.specs.declared.code.Code.{Code}
 use Rattle.power_machine.specs.declared.code.Code.TheVariants.{Unfetched, Unknown, OneWord, TwoWords}
 use Rattle.std.specs.Prelude.{◌==◌, ◌||◌}
-use Rattle.power_machine.specs.declared.memory.Access.TheVariants.{Loading, Storing}
+use Rattle.power_machine.specs.declared.memory.Purpose.TheVariants.{Loading, Storing}
 use Rattle.power_machine.specs.declared.reason.Reason.TheVariants as why
-use Rattle.power_machine.specs.Memory.{Range, allows}
+use Rattle.power_machine.specs.Memory.{Range, allows_range}
 use Rattle.power_machine.specs.Calls.{Run, Stepped, Goes, Ends, Leaves}
 use Rattle.power_machine.specs.Steps.{StepsOn, IsStep, step_over, Made, Performs, Grows, run_after, next_of, operates, is_call}
 use Rattle.power_machine.specs.Calls.{calls, call_number, exits, reads, writes, address_of, length_of, after_read, after_write, first_answer, event_of, read_bytes, written_bytes}
@@ -52,12 +52,12 @@ by_next r (Left reason) = no_more r
 by_reads : (ranges : List Range) (r : Run) → GrowsBy r (reads ranges r)
 by_reads ranges r =
     let a = first_answer r.answers in
-    by_either r (allows Storing (address_of r.state) (length_of r.state) ranges) (Goes (after_read r a)) (Leaves why.Store r.state.at) (event_of 3 r.state a (read_bytes r a) ∷ [], refl) (no_more r)
+    by_either r (allows_range Storing (address_of r.state) (length_of r.state) ranges) (Goes (after_read r a)) (Leaves why.Store r.state.at) (event_of 3 r.state a (read_bytes r a) ∷ [], refl) (no_more r)
 
 by_writes : (ranges : List Range) (r : Run) → GrowsBy r (writes ranges r)
 by_writes ranges r =
     let a = first_answer r.answers in
-    by_either r (allows Loading (address_of r.state) (length_of r.state) ranges) (Goes (after_write r a)) (Leaves why.Load r.state.at) (event_of 4 r.state a (written_bytes r a) ∷ [], refl) (no_more r)
+    by_either r (allows_range Loading (address_of r.state) (length_of r.state) ranges) (Goes (after_write r a)) (Leaves why.Load r.state.at) (event_of 4 r.state a (written_bytes r a) ∷ [], refl) (no_more r)
 
 by_calls : (ranges : List Range) (r : Run) → GrowsBy r (calls ranges r)
 by_calls ranges r =

@@ -10,25 +10,25 @@ use Rattle.power_machine.specs.declared.memory.Region.{Region}
 use Rattle.std.proofs.Math.ListN.{get_or-map}
 use Rattle.std.proofs.Math.Seq.{map-set_same}
 use Rattle.std.proofs.lemmas.List.{length-map}
-use Rattle.power_machine.specs.declared.memory.Access.{Access}
-use Rattle.power_machine.specs.declared.memory.Access.TheVariants.{Storing}
+use Rattle.power_machine.specs.declared.memory.Purpose.{Purpose}
+use Rattle.power_machine.specs.declared.memory.Purpose.TheVariants.{Storing}
 use Rattle.power_machine.specs.Memory.{Range, InOrder, IsPlace, stop_of, range_of, ranges_of, holds, allows, place_of, byte_at, bytes_from, put}
 use Rattle.power_machine.specs.Bytes.{over}
 
-holds_parts : (access : Access) (at count : ℕ) (r : Range) → holds access at count r ≡ true → (r.start ≤ at) × (at + count ≤ r.stop)
-holds_parts access at count r h = grind (arith, nat_tests)
+holds_parts : (purpose : Purpose) (at count : ℕ) (r : Range) → holds purpose at count r ≡ true → (r.start ≤ at) × (at + count ≤ r.stop)
+holds_parts purpose at count r h = grind (arith, nat_tests)
 
 position_within : {X : Type 0} (p : X → Bool) (xs : List X) (i : ℕ) → position p xs ≡ Some i → i < length xs
 position_within p [] i h = cc
 position_within p (x ∷ xs) i h = (position-Some p (x ∷ xs) i x h).0
 
-pub place_found : (access : Access) (at count : ℕ) (regions : List Region) (index : ℕ) → InOrder regions → place_of access at count regions ≡ Some index → IsPlace access at count regions index
-place_found access at count regions index order h =
+pub place_found : (purpose : Purpose) (at count : ℕ) (regions : List Region) (index : ℕ) → InOrder regions → place_of purpose at count regions ≡ Some index → IsPlace purpose at count regions index
+place_found purpose at count regions index order h =
     let inside : index < length regions = position_within _ regions index h in
     record {
       within = inside;
-      starts = λ d. (holds_parts access at count _ (position-Some _ regions index d h).1).0;
-      ends = λ d. (holds_parts access at count _ (position-Some _ regions index d h).1).1;
+      starts = λ d. (holds_parts purpose at count _ (position-Some _ regions index d h).1).0;
+      ends = λ d. (holds_parts purpose at count _ (position-Some _ regions index d h).1).1;
       low = λ d. order.low index d inside;
     }
 
@@ -44,8 +44,8 @@ any_position p [] = refl
 any_position p (x ∷ xs) = one_more (p x) (list_any p xs) (position_or_len p xs) (length xs) (any_position p xs)
 
 -- whether there is one is what the ranges say
-pub allows_is : (access : Access) (at count : ℕ) (regions : List Region) (o : Option ℕ) → place_of access at count regions ≡ o → allows access at count (ranges_of regions) ≡ is_some o
-allows_is access at count regions o h = any_map range_of (holds access at count) regions ∙ any_position _ regions ∙ ap is_some h
+pub allows_is : (purpose : Purpose) (at count : ℕ) (regions : List Region) (o : Option ℕ) → place_of purpose at count regions ≡ o → allows purpose at count (ranges_of regions) ≡ is_some o
+allows_is purpose at count regions o h = any_map range_of (holds purpose at count) regions ∙ any_position _ regions ∙ ap is_some h
 
 tail_order : (s : Region) (regions : List Region) → InOrder (s ∷ regions) → InOrder regions
 tail_order s regions order = record {
@@ -77,8 +77,8 @@ same_bytes f g a b (suc n) h =
     ap (λ x. x ∷ bytes_from f (a + 1) n) first ∙ ap (λ xs. g b ∷ xs) (same_bytes f g (a + 1) (b + 1) n rest)
 
 -- the bytes that a place has
-pub bytes_in : (access : Access) (regions : List Region) (i at n : ℕ) (d : Region) → InOrder regions → IsPlace access at n regions i → take n (drop (at - (get_or regions i d).start) (get_or regions i d).bytes) ≡ bytes_from (byte_at regions) at n
-bytes_in access regions i at n d order place =
+pub bytes_in : (purpose : Purpose) (regions : List Region) (i at n : ℕ) (d : Region) → InOrder regions → IsPlace purpose at n regions i → take n (drop (at - (get_or regions i d).start) (get_or regions i d).bytes) ≡ bytes_from (byte_at regions) at n
+bytes_in purpose regions i at n d order place =
     let from = place.starts d in
     let to = place.ends d in
     front_is (get_or regions i d).bytes (at - (get_or regions i d).start) n (omega arith)
@@ -107,25 +107,25 @@ stored_in (s ∷ regions) (suc i) at bytes s' d order h from to e f a =
     grind (arith, nat_tests)
 
 -- what the ranges say of a look-up
-pub allowed_is : (access : Access) (regions xs : List Region) (at count : ℕ) (o p : Option ℕ) → xs ≡ regions → o ≡ p → o ≡ place_of access at count xs → is_some p ≡ allows access at count (ranges_of regions)
-allowed_is access regions xs at count o p same is e = sym (allows_is access at count regions p (subst (λ ys. place_of access at count ys ≡ p) same (sym e ∙ is)))
+pub allowed_is : (purpose : Purpose) (regions xs : List Region) (at count : ℕ) (o p : Option ℕ) → xs ≡ regions → o ≡ p → o ≡ place_of purpose at count xs → is_some p ≡ allows purpose at count (ranges_of regions)
+allowed_is purpose regions xs at count o p same is e = sym (allows_is purpose at count regions p (subst (λ ys. place_of purpose at count ys ≡ p) same (sym e ∙ is)))
 
 -- what is read, where it may be
-abbrev pub read_by : {A : Type 0} → (List ℕ → A) → Access → List Region → ℕ → ℕ → ℕ → Option A
-read_by f access regions at room count = cond (allows access at room (ranges_of regions)) (Some (f (bytes_from (byte_at regions) at count))) None
+abbrev pub read_by : {A : Type 0} → (List ℕ → A) → Purpose → List Region → ℕ → ℕ → ℕ → Option A
+read_by f purpose regions at room count = cond (allows purpose at room (ranges_of regions)) (Some (f (bytes_from (byte_at regions) at count))) None
 
-pub read_none : {A : Type 0} (f : List ℕ → A) (access : Access) (regions xs : List Region) (at room count : ℕ) (o : Option ℕ) → xs ≡ regions → o ≡ None → o ≡ place_of access at room xs → None ≡ read_by f access regions at room count
-read_none f access regions xs at room count o same none e =
-    ap (λ b. cond b (Some (f (bytes_from (byte_at regions) at count))) None) (allowed_is access regions xs at room o None same none e)
+pub read_none : {A : Type 0} (f : List ℕ → A) (purpose : Purpose) (regions xs : List Region) (at room count : ℕ) (o : Option ℕ) → xs ≡ regions → o ≡ None → o ≡ place_of purpose at room xs → None ≡ read_by f purpose regions at room count
+read_none f purpose regions xs at room count o same none e =
+    ap (λ b. cond b (Some (f (bytes_from (byte_at regions) at count))) None) (allowed_is purpose regions xs at room o None same none e)
 
-fewer : (access : Access) (regions : List Region) (at room count i : ℕ) → count ≤ room → IsPlace access at room regions i → IsPlace access at count regions i
-fewer access regions at room count i le place = record { within = place.within; starts = place.starts; ends = λ d. omega (arith, place.ends d); low = place.low }
+fewer : (purpose : Purpose) (regions : List Region) (at room count i : ℕ) → count ≤ room → IsPlace purpose at room regions i → IsPlace purpose at count regions i
+fewer purpose regions at room count i le place = record { within = place.within; starts = place.starts; ends = λ d. omega (arith, place.ends d); low = place.low }
 
-pub read_some : {A : Type 0} (f : List ℕ → A) (access : Access) (regions xs : List Region) (at room count : ℕ) (o : Option ℕ) (i : ℕ) (v : A) (s : Region) → InOrder regions → xs ≡ regions → o ≡ Some i → o ≡ place_of access at room xs → IsPlace access at room xs i → s ≡ get_or regions i s → count ≤ room → v ≡ f (take count (drop (at - s.start) s.bytes)) → Some v ≡ read_by f access regions at room count
-read_some f access regions xs at room count o i v s order same some e place item le read =
-    let place' : IsPlace access at room regions i = subst (λ ys. IsPlace access at room ys i) same place in
-    ap Some (read ∙ ap (λ (t : Region). f (take count (drop (at - t.start) t.bytes))) item ∙ ap f (bytes_in access regions i at count s order (fewer access regions at room count i le place')))
-    ∙ ap (λ b. cond b (Some (f (bytes_from (byte_at regions) at count))) None) (allowed_is access regions xs at room o (Some i) same some e)
+pub read_some : {A : Type 0} (f : List ℕ → A) (purpose : Purpose) (regions xs : List Region) (at room count : ℕ) (o : Option ℕ) (i : ℕ) (v : A) (s : Region) → InOrder regions → xs ≡ regions → o ≡ Some i → o ≡ place_of purpose at room xs → IsPlace purpose at room xs i → s ≡ get_or regions i s → count ≤ room → v ≡ f (take count (drop (at - s.start) s.bytes)) → Some v ≡ read_by f purpose regions at room count
+read_some f purpose regions xs at room count o i v s order same some e place item le read =
+    let place' : IsPlace purpose at room regions i = subst (λ ys. IsPlace purpose at room ys i) same place in
+    ap Some (read ∙ ap (λ (t : Region). f (take count (drop (at - t.start) t.bytes))) item ∙ ap f (bytes_in purpose regions i at count s order (fewer purpose regions at room count i le place')))
+    ∙ ap (λ b. cond b (Some (f (bytes_from (byte_at regions) at count))) None) (allowed_is purpose regions xs at room o (Some i) same some e)
 
 -- writes
 pub ranges_set : (regions : List Region) (i : ℕ) (s s' : Region) → s ≡ get_or regions i s → range_of s' ≡ range_of s → ranges_of (slice_set regions i s') ≡ ranges_of regions

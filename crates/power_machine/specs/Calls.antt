@@ -1,12 +1,12 @@
 -- System calls: exit, exit_group, read and write, answered by a world (the numbers are Linux's for 64-bit Power).
 use Rattle.std.specs.Prelude.{◌≡◌, ◌≤◌, ℕ, ◌%◌, min, Bool, true, false, ◌||◌, List, [], ◌∷◌, ◌++◌, length, take, drop, Option, Some, slice_index, slice_set, slice_get, if◌then◌else◌, ◌==◌}
-use Rattle.power_machine.specs.declared.memory.Access.TheVariants.{Loading, Storing}
+use Rattle.power_machine.specs.declared.memory.Purpose.TheVariants.{Loading, Storing}
 use Rattle.power_machine.specs.declared.reason.Reason.{Reason}
 use Rattle.power_machine.specs.declared.reason.Reason.TheVariants as why
 use Rattle.power_machine.specs.declared.world.Answer.{Answer}
 use Rattle.power_machine.specs.declared.world.Answer.TheVariants.{Whole, Short, Error}
 use Rattle.power_machine.specs.declared.world.Event.{Event}
-use Rattle.power_machine.specs.Memory.{Range, allows, bytes_from, put}
+use Rattle.power_machine.specs.Memory.{Range, allows_range, bytes_from, put}
 use Rattle.power_machine.specs.Machines.{sum_address}
 use Rattle.power_machine.specs.Numbers.{NumberState}
 
@@ -87,10 +87,10 @@ after_write r a = record { state = after_call r.state a (granted a (length_of r.
 
 -- the whole range must be allowed, also where fewer bytes come or go
 abbrev pub reads : List Range → Run → Stepped
-reads ranges r = if allows Storing (address_of r.state) (length_of r.state) ranges then Goes (after_read r (first_answer r.answers)) else Leaves why.Store r.state.at
+reads ranges r = if allows_range Storing (address_of r.state) (length_of r.state) ranges then Goes (after_read r (first_answer r.answers)) else Leaves why.Store r.state.at
 
 abbrev pub writes : List Range → Run → Stepped
-writes ranges r = if allows Loading (address_of r.state) (length_of r.state) ranges then Goes (after_write r (first_answer r.answers)) else Leaves why.Load r.state.at
+writes ranges r = if allows_range Loading (address_of r.state) (length_of r.state) ranges then Goes (after_write r (first_answer r.answers)) else Leaves why.Load r.state.at
 
 abbrev pub exit_status : Run → ℕ
 exit_status r = descriptor_of r.state % 256

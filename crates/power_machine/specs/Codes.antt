@@ -5,7 +5,7 @@ use Rattle.power_insns.specs.declared.instruction.Insn.{Insn}
 use Rattle.power_insns.specs.Table.{word_of, Fits as FitsWord}
 use Rattle.prefixed_insns.specs.declared.instruction.PInsn.{PInsn}
 use Rattle.prefixed_insns.specs.Table.{prefix_of, suffix_of, Fits as FitsPair}
-use Rattle.power_machine.specs.declared.memory.Access.TheVariants.{Fetching}
+use Rattle.power_machine.specs.declared.memory.Purpose.TheVariants.{Fetching}
 use Rattle.power_machine.specs.declared.code.Code.{Code}
 use Rattle.power_machine.specs.declared.code.Code.TheVariants.{Unfetched, Unknown, OneWord, TwoWords}
 use Rattle.power_machine.specs.Bytes.{spelled}

@@ -6,7 +6,7 @@ use Rattle.power_insns.specs.declared.meaning.Operation.TheVariants.{Copy, Calcu
 use Rattle.power_insns.specs.declared.uses.Access.TheVariants as memory
 use Rattle.power_insns.specs.Arithmetic.{bytes_of, quotient}
 use Rattle.power_insns.specs.Uses.{Writes, access_of}
-use Rattle.power_machine.specs.declared.memory.Access.TheVariants.{Loading, Storing}
+use Rattle.power_machine.specs.declared.memory.Purpose.TheVariants.{Loading, Storing}
 use Rattle.power_machine.specs.declared.reason.Reason.{Reason}
 use Rattle.power_machine.specs.declared.reason.Reason.TheVariants as why
 use Rattle.power_machine.specs.Memory.{Range, allows, bytes_from, put}

@@ -1,7 +1,7 @@
 -- What callers may cite about steps and runs.
 use Rattle.std.proofs.Common.{List, ◌≡◌, ℕ, zero, suc, Option, Some, None, Bool, true, false, refl, sym, ap, ◌∙◌, subst}
-use Rattle.power_insns.specs.Laws.{one_word}
-use Rattle.prefixed_insns.specs.Laws.{one_pair}
+use Rattle.power_insns.specs.laws.Words.{one_word}
+use Rattle.prefixed_insns.specs.laws.Pairs.{one_pair}
 use Rattle.power_machine.specs.declared.code.Code.{Code}
 use Rattle.power_machine.specs.declared.code.Code.TheVariants.{Unfetched, Unknown, OneWord, TwoWords}
 use Rattle.power_machine.specs.Memory.{Range}

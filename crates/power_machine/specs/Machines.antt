@@ -11,13 +11,13 @@ use Rattle.power_insns.specs.declared.meaning.Counter.{Counter}
 use Rattle.power_insns.specs.declared.meaning.Counter.TheVariants.{Kept, Lowered}
 use Rattle.power_insns.specs.declared.meaning.Condition.{Condition}
 use Rattle.power_insns.specs.declared.meaning.Condition.TheVariants.{Always, Bit}
-use Rattle.power_insns.specs.declared.meaning.Target.{Target}
-use Rattle.power_insns.specs.declared.meaning.Target.TheVariants.{Ahead, Through}
+use Rattle.power_insns.specs.declared.meaning.BranchTarget.{BranchTarget}
+use Rattle.power_insns.specs.declared.meaning.BranchTarget.TheVariants.{Ahead, Through}
 use Rattle.power_insns.specs.declared.meaning.Operation.{Operation}
 use Rattle.power_insns.specs.declared.meaning.Operation.TheVariants.{Copy, Calculate, Divide, Compare, Load, Store, Branch, System}
 use Rattle.power_insns.specs.Arithmetic.{bytes_of, quotient}
 use Rattle.power_insns.specs.Operations.{link_register, count_register}
-use Rattle.power_machine.specs.declared.memory.Access.TheVariants.{Loading, Storing}
+use Rattle.power_machine.specs.declared.memory.Purpose.TheVariants.{Loading, Storing}
 use Rattle.power_machine.specs.declared.reason.Reason.{Reason}
 use Rattle.power_machine.specs.declared.reason.Reason.TheVariants as why
 use Rattle.power_machine.specs.Bytes.{over}
@@ -122,7 +122,7 @@ module _ {V B T P : Type 0} (d : Domain V B T P) where
   with_address s base offset go = need (d.number (value_of s base)) why.Value (λ b. need (d.number (value_of s offset)) why.Value (λ o. go (sum_address b o)))
 
   -- Branches: CTR is lowered first, the target is read next, and LR is set last, also where the branch isn't taken.
-  abbrev pub target_of : P → List V → Target → Option P
+  abbrev pub target_of : P → List V → BranchTarget → Option P
   target_of at registers (Ahead n) = Some (d.ahead at n)
   target_of at registers (Through r) = d.place (register registers r)
 
@@ -132,7 +132,7 @@ module _ {V B T P : Type 0} (d : Domain V B T P) where
   abbrev pub going : ℕ → State V B T P → List V → Bool → P → State V B T P
   going size s registers link to = record { at = to; registers = linked registers (d.ahead s.at size) link; condition = s.condition; byte = s.byte }
 
-  abbrev pub branches : ℕ → State V B T P → List V → Target → Bool → Bool → Next (State V B T P)
+  abbrev pub branches : ℕ → State V B T P → List V → BranchTarget → Bool → Bool → Next (State V B T P)
   branches size s registers target link true = need (target_of s.at registers target) why.Value (λ to. Went (going size s registers link to))
   branches size s registers target link false = Went (going size s registers link (d.ahead s.at size))
 
@@ -140,11 +140,11 @@ module _ {V B T P : Type 0} (d : Domain V B T P) where
   wanted bits Always = Some true
   wanted bits (Bit bit value) = d.bit (slice_index_or bits bit d.no_bit)
 
-  abbrev pub branch_if : ℕ → State V B T P → List V → Bool → Condition → Target → Bool → Next (State V B T P)
+  abbrev pub branch_if : ℕ → State V B T P → List V → Bool → Condition → BranchTarget → Bool → Next (State V B T P)
   branch_if size s registers counted condition target link =
       need (wanted s.condition condition) why.Value (λ b. branches size s registers target link (counted && met condition b))
 
-  abbrev pub branch : ℕ → State V B T P → Counter → Condition → Target → Bool → Next (State V B T P)
+  abbrev pub branch : ℕ → State V B T P → Counter → Condition → BranchTarget → Bool → Next (State V B T P)
   branch size s Kept condition target link = branch_if size s s.registers true condition target link
   branch size s (Lowered zero) condition target link =
       need (d.number (register s.registers count_register)) why.Value (λ n. branch_if size s (slice_set s.registers count_register (d.num (one_less n))) (agrees (one_less n == 0) zero) condition target link)

@@ -1,8 +1,8 @@
 -- Memory: ranges of addresses that are allowed, which never change, and a byte at each address.
-use Rattle.std.specs.Prelude.{ℕ, zero, suc, ◌+◌, ◌-◌, ◌≤◌, ◌<◌, Bool, true, ◌&&◌, List, [], ◌∷◌, length, map, Option, nat_le, nat_lt, if◌then◌else◌, slice_index, slice_index_or}
+use Rattle.std.specs.Prelude.{ℕ, zero, suc, ◌+◌, ◌-◌, ◌≤◌, ◌<◌, Bool, true, ◌&&◌, ◌||◌, ◌==◌, List, [], ◌∷◌, length, map, Option, nat_le, nat_lt, if◌then◌else◌, slice_index, slice_index_or}
 use Rattle.std.specs.List.{list_any, position}
-use Rattle.power_machine.specs.declared.memory.Access.{Access}
-use Rattle.power_machine.specs.declared.memory.Access.TheVariants.{Loading, Storing, Fetching}
+use Rattle.power_machine.specs.declared.memory.Purpose.{Purpose}
+use Rattle.power_machine.specs.declared.memory.Purpose.TheVariants.{Loading, Storing, Fetching}
 use Rattle.power_machine.specs.declared.memory.Region.{Region}
 
 -- the addresses from start up to stop, and what they allow beside loads
@@ -13,18 +13,22 @@ pub record Range : Type 0 where
   pub executable : Bool
 
 -- each range may be loaded from
-abbrev pub permits : Access → Range → Bool
+abbrev pub permits : Purpose → Range → Bool
 permits Loading r = true
 permits Storing r = r.writable
 permits Fetching r = r.executable
 
 -- so many bytes at an address lie in the range, which allows the access
-abbrev pub holds : Access → ℕ → ℕ → Range → Bool
-holds access at count r = nat_le r.start at && nat_le (at + count) r.stop && permits access r
+abbrev pub holds : Purpose → ℕ → ℕ → Range → Bool
+holds purpose at count r = nat_le r.start at && nat_le (at + count) r.stop && permits purpose r
 
 -- one range holds them all
-abbrev pub allows : Access → ℕ → ℕ → List Range → Bool
-allows access at count ranges = list_any (holds access at count) ranges
+abbrev pub allows : Purpose → ℕ → ℕ → List Range → Bool
+allows purpose at count ranges = list_any (holds purpose at count) ranges
+
+-- a call's range of addresses: one without bytes may be used wherever it lies
+abbrev pub allows_range : Purpose → ℕ → ℕ → List Range → Bool
+allows_range purpose at count ranges = count == 0 || allows purpose at count ranges
 
 -- so many bytes from an address on
 abbrev pub bytes_from : {B : Type 0} → (ℕ → B) → ℕ → ℕ → List B
@@ -59,11 +63,11 @@ pub record InOrder (regions : List Region) : Type 0 where
   pub apart : (i j : ℕ) (d : Region) → i < j → j < length regions → stop_of (slice_index_or regions i d) ≤ (slice_index_or regions j d).start
 
 -- the first region that holds so many bytes at an address
-abbrev pub place_of : Access → ℕ → ℕ → List Region → Option ℕ
-place_of access at count regions = position (λ r. holds access at count (range_of r)) regions
+abbrev pub place_of : Purpose → ℕ → ℕ → List Region → Option ℕ
+place_of purpose at count regions = position (λ r. holds purpose at count (range_of r)) regions
 
 -- the region with this index has them
-pub record IsPlace (access : Access) (at count : ℕ) (regions : List Region) (index : ℕ) : Type 0 where
+pub record IsPlace (purpose : Purpose) (at count : ℕ) (regions : List Region) (index : ℕ) : Type 0 where
   pub within : index < length regions
   pub starts : (d : Region) → (slice_index_or regions index d).start ≤ at
   pub ends : (d : Region) → at + count ≤ stop_of (slice_index_or regions index d)

@@ -8,8 +8,8 @@ use Rattle.power_insns.specs.declared.meaning.Operation.{Operation}
 use Rattle.power_insns.specs.declared.uses.Access.TheVariants as memory
 use Rattle.power_insns.specs.Arithmetic.{bytes_of}
 use Rattle.power_insns.specs.Uses.{Reads, Writes, access_of}
-use Rattle.power_machine.specs.declared.memory.Access.{Access}
-use Rattle.power_machine.specs.declared.memory.Access.TheVariants.{Loading, Storing}
+use Rattle.power_machine.specs.declared.memory.Purpose.{Purpose}
+use Rattle.power_machine.specs.declared.memory.Purpose.TheVariants.{Loading, Storing}
 use Rattle.power_machine.specs.Memory.{Range, allows, bytes_from, put}
 use Rattle.power_machine.specs.Machines.{Domain, State, Next, Went, Left}
 
@@ -59,7 +59,7 @@ pub record Memories {V B T P V' B' T' P' : Type 0} (d : Domain V B T P) (e : Dom
 
 -- what the first ranges allow the second allow
 pub record AllowsMore (rs rt : List Range) : Type 0 where
-  pub allowed : (access : Access) (at count : ℕ) → allows access at count rs ≡ true → allows access at count rt ≡ true
+  pub allowed : (purpose : Purpose) (at count : ℕ) → allows purpose at count rs ≡ true → allows purpose at count rt ≡ true
 
 -- the operation reads and writes only registers that it may, and loads and stores only if it may
 pub record Confined (MayRead MayWrite : ℕ → Type 0) (Loads Stores : Type 0) (op : Operation) : Type 0 where

@@ -5,9 +5,9 @@ use Rattle.power_insns.specs.Operations.{operation_of}
 use Rattle.prefixed_insns.specs.Meaning.{operation_of_pair}
 use Rattle.power_machine.specs.declared.code.Code.{Code}
 use Rattle.power_machine.specs.declared.code.Code.TheVariants.{Unfetched, Unknown, OneWord, TwoWords}
-use Rattle.power_machine.specs.declared.memory.Access.TheVariants.{Loading, Storing}
+use Rattle.power_machine.specs.declared.memory.Purpose.TheVariants.{Loading, Storing}
 use Rattle.power_machine.specs.declared.reason.Reason.TheVariants as why
-use Rattle.power_machine.specs.Memory.{Range, allows}
+use Rattle.power_machine.specs.Memory.{Range, allows_range}
 use Rattle.power_machine.specs.Machines.{Next, Went, Left, exec}
 use Rattle.power_machine.specs.Numbers.{numbers, NumberState}
 use Rattle.power_machine.specs.Calls.{Run, Stepped, Goes, Ends, Leaves, calls, call_number, exits, reads, writes, address_of, length_of, after_read, after_write, first_answer}
@@ -39,10 +39,10 @@ next_ended r (Went s) h = h
 next_ended r (Left reason) h = tt
 
 reads_ended : (ranges : List Range) (r : Run) → r.ended ≡ None → EndedAs (reads ranges r)
-reads_ended ranges r h = either_ended (allows Storing (address_of r.state) (length_of r.state) ranges) (Goes (after_read r (first_answer r.answers))) (Leaves why.Store r.state.at) h tt
+reads_ended ranges r h = either_ended (allows_range Storing (address_of r.state) (length_of r.state) ranges) (Goes (after_read r (first_answer r.answers))) (Leaves why.Store r.state.at) h tt
 
 writes_ended : (ranges : List Range) (r : Run) → r.ended ≡ None → EndedAs (writes ranges r)
-writes_ended ranges r h = either_ended (allows Loading (address_of r.state) (length_of r.state) ranges) (Goes (after_write r (first_answer r.answers))) (Leaves why.Load r.state.at) h tt
+writes_ended ranges r h = either_ended (allows_range Loading (address_of r.state) (length_of r.state) ranges) (Goes (after_write r (first_answer r.answers))) (Leaves why.Load r.state.at) h tt
 
 calls_ended : (ranges : List Range) (r : Run) → r.ended ≡ None → EndedAs (calls ranges r)
 calls_ended ranges r h =

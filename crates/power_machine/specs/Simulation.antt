@@ -10,14 +10,14 @@ use Rattle.power_insns.specs.declared.meaning.Counter.{Counter}
 use Rattle.power_insns.specs.declared.meaning.Counter.TheVariants.{Kept, Lowered}
 use Rattle.power_insns.specs.declared.meaning.Condition.{Condition}
 use Rattle.power_insns.specs.declared.meaning.Condition.TheVariants.{Always, Bit}
-use Rattle.power_insns.specs.declared.meaning.Target.{Target}
-use Rattle.power_insns.specs.declared.meaning.Target.TheVariants.{Ahead, Through}
+use Rattle.power_insns.specs.declared.meaning.BranchTarget.{BranchTarget}
+use Rattle.power_insns.specs.declared.meaning.BranchTarget.TheVariants.{Ahead, Through}
 use Rattle.power_insns.specs.declared.meaning.Operation.{Operation}
 use Rattle.power_insns.specs.declared.meaning.Operation.TheVariants.{Copy, Calculate, Divide, Compare, Load, Store, Branch, System}
 use Rattle.power_insns.specs.Arithmetic.{bytes_of, quotient}
 use Rattle.power_insns.specs.Operations.{link_register, count_register}
 use Rattle.power_insns.specs.Uses.{IsRegister, GoesThrough, Links, Updates}
-use Rattle.power_machine.specs.declared.memory.Access.TheVariants.{Loading, Storing}
+use Rattle.power_machine.specs.declared.memory.Purpose.TheVariants.{Loading, Storing}
 use Rattle.power_machine.specs.declared.reason.Reason.{Reason}
 use Rattle.power_machine.specs.declared.reason.Reason.TheVariants as why
 use Rattle.power_machine.specs.Bytes.{over}
@@ -117,24 +117,24 @@ went_simulated R (Went u) (Went t) s h w = (t, refl, subst (λ z. R z t) (went_o
   went_one a b h = cc
 
 module _ {V B T P V' B' T' P' : Type 0} {d : Domain V B T P} {e : Domain V' B' T' P'} {RV : V → V' → Type 0} {RB : B → B' → Type 0} {RT : T → T' → Type 0} {RP : P → P' → Type 0} (laws : Related d e RV RB RT RP) {MayRead MayWrite : ℕ → Type 0} {RR : List V → List V' → Type 0} (files : Registers RV MayRead MayWrite RR) {rs rt : List Range} {Loads Stores : Type 0} {RM : (ℕ → B) → (ℕ → B') → Type 0} (memories : Memories d e RV RB rs Loads Stores RM) (more : AllowsMore rs rt) where
-  abbrev Matches : State V B T P → State V' B' T' P' → Type 0
+  abbrev pub Matches : State V B T P → State V' B' T' P' → Type 0
   Matches s t = Match RT RP RR RM s t
 
-  abbrev Simulates : Next (State V B T P) → Next (State V' B' T' P') → Type 0
+  abbrev pub Simulates : Next (State V B T P) → Next (State V' B' T' P') → Type 0
   Simulates next next' = Simulated Matches next next'
 
-  register_related : (xs : List V) (ys : List V') (r : ℕ) → MayRead r → RR xs ys → RV (register d xs r) (register e ys r)
+  pub register_related : (xs : List V) (ys : List V') (r : ℕ) → MayRead r → RR xs ys → RV (register d xs r) (register e ys r)
   register_related xs ys r may h = files.get xs ys r (d.num 0) (e.num 0) may (laws.num 0) h
 
-  operand_related : (s : State V B T P) (t : State V' B' T' P') (o : Operand) → ((r : ℕ) → IsRegister o r → MayRead r) → Matches s t → RV (value_of d s o) (value_of e t o)
+  pub operand_related : (s : State V B T P) (t : State V' B' T' P') (o : Operand) → ((r : ℕ) → IsRegister o r → MayRead r) → Matches s t → RV (value_of d s o) (value_of e t o)
   operand_related s t (Register r) may h = register_related s.registers t.registers r (may r refl) h.registers
   operand_related s t (Fixed n) may h = laws.num n
   operand_related s t (Here n) may h = laws.code (d.ahead s.at n) (e.ahead t.at n) (laws.ahead s.at t.at n h.at)
 
-  field_related : (s : State V B T P) (t : State V' B' T' P') (field : ℕ) (us : List T) (vs : List T') → Matches s t → Pairwise RT us vs → Pairwise RT (with_field s.condition field us) (with_field t.condition field vs)
+  pub field_related : (s : State V B T P) (t : State V' B' T' P') (field : ℕ) (us : List T) (vs : List T') → Matches s t → Pairwise RT us vs → Pairwise RT (with_field s.condition field us) (with_field t.condition field vs)
   field_related s t field us vs h q = pairwise_over RT s.condition t.condition (4 * field) us vs q h.condition
 
-  result_matches : (size : ℕ) (s : State V B T P) (t : State V' B' T' P') (to : ℕ) (x : V) (y : V') (rc : Bool) → MayWrite to → Matches s t → RV x y → Matches (with_result d size s to x rc) (with_result e size t to y rc)
+  pub result_matches : (size : ℕ) (s : State V B T P) (t : State V' B' T' P') (to : ℕ) (x : V) (y : V') (rc : Bool) → MayWrite to → Matches s t → RV x y → Matches (with_result d size s to x rc) (with_result e size t to y rc)
   result_matches size s t to x y rc may h r = record {
     at = laws.ahead s.at t.at size h.at;
     registers = files.set s.registers t.registers to x y may r h.registers;
@@ -142,16 +142,16 @@ module _ {V B T P V' B' T' P' : Type 0} {d : Domain V B T P} {e : Domain V' B' T
     byte = h.byte;
   }
 
-  load_simulated : (size : ℕ) (s : State V B T P) (t : State V' B' T' P') (width : Width) (sign : Sign) (to a : ℕ) → Loads → MayWrite to → Matches s t → Simulates (load_at d size rs s width sign to a) (load_at e size rt t width sign to a)
+  pub load_simulated : (size : ℕ) (s : State V B T P) (t : State V' B' T' P') (width : Width) (sign : Sign) (to a : ℕ) → Loads → MayWrite to → Matches s t → Simulates (load_at d size rs s width sign to a) (load_at e size rt t width sign to a)
   load_simulated size s t width sign to a loads may h =
       check_simulated Matches (allows Loading a (bytes_of width) rs) (allows Loading a (bytes_of width) rt) why.Load _ _ (more.allowed Loading a (bytes_of width))
       (λ ok. result_matches size s t to _ _ false may h (laws.join width sign _ _ (length-bytes_from s.byte a (bytes_of width)) (memories.loaded loads s.byte t.byte width a ok h.byte)))
 
-  updated_related : (xs : List V) (ys : List V') (update : Option ℕ) (a : ℕ) → ((r : ℕ) → Updates update r → MayWrite r) → RR xs ys → RR (updated d xs update a) (updated e ys update a)
+  pub updated_related : (xs : List V) (ys : List V') (update : Option ℕ) (a : ℕ) → ((r : ℕ) → Updates update r → MayWrite r) → RR xs ys → RR (updated d xs update a) (updated e ys update a)
   updated_related xs ys None a may h = h
   updated_related xs ys (Some r) a may h = files.set xs ys r (d.num a) (e.num a) (may r refl) (laws.num a) h
 
-  store_simulated : (size : ℕ) (s : State V B T P) (t : State V' B' T' P') (width : Width) (from : ℕ) (update : Option ℕ) (a : ℕ) → Stores → MayRead from → ((r : ℕ) → Updates update r → MayWrite r) → Matches s t → Simulates (store_at d size rs s width from update a) (store_at e size rt t width from update a)
+  pub store_simulated : (size : ℕ) (s : State V B T P) (t : State V' B' T' P') (width : Width) (from : ℕ) (update : Option ℕ) (a : ℕ) → Stores → MayRead from → ((r : ℕ) → Updates update r → MayWrite r) → Matches s t → Simulates (store_at d size rs s width from update a) (store_at e size rt t width from update a)
   store_simulated size s t width from update a stores may updates h =
       check_simulated Matches (allows Storing a (bytes_of width) rs) (allows Storing a (bytes_of width) rt) why.Store _ _ (more.allowed Storing a (bytes_of width))
       (λ ok. record {
@@ -161,12 +161,12 @@ module _ {V B T P V' B' T' P' : Type 0} {d : Domain V B T P} {e : Domain V' B' T
         byte = memories.stored stores s.byte t.byte width a _ _ ok (register_related s.registers t.registers from may h.registers) h.byte;
       })
 
-  address_simulated : (s : State V B T P) (t : State V' B' T' P') (base offset : Operand) (go : ℕ → Next (State V B T P)) (go' : ℕ → Next (State V' B' T' P')) → ((r : ℕ) → IsRegister base r → MayRead r) → ((r : ℕ) → IsRegister offset r → MayRead r) → Matches s t → ((a : ℕ) → Simulates (go a) (go' a)) → Simulates (with_address d s base offset go) (with_address e t base offset go')
+  pub address_simulated : (s : State V B T P) (t : State V' B' T' P') (base offset : Operand) (go : ℕ → Next (State V B T P)) (go' : ℕ → Next (State V' B' T' P')) → ((r : ℕ) → IsRegister base r → MayRead r) → ((r : ℕ) → IsRegister offset r → MayRead r) → Matches s t → ((a : ℕ) → Simulates (go a) (go' a)) → Simulates (with_address d s base offset go) (with_address e t base offset go')
   address_simulated s t base offset go go' may may' h k =
       need_same Matches (d.number (value_of d s base)) (e.number (value_of e t base)) why.Value _ _ (laws.number _ _ (operand_related s t base may h))
       (λ b. need_same Matches (d.number (value_of d s offset)) (e.number (value_of e t offset)) why.Value _ _ (laws.number _ _ (operand_related s t offset may' h)) (λ o. k (sum_address b o)))
 
-  target_related : (s : State V B T P) (t : State V' B' T' P') (xs : List V) (ys : List V') (target : Target) → ((r : ℕ) → GoesThrough target r → MayRead r) → Matches s t → RR xs ys → Known RP (target_of d s.at xs target) (target_of e t.at ys target)
+  pub target_related : (s : State V B T P) (t : State V' B' T' P') (xs : List V) (ys : List V') (target : BranchTarget) → ((r : ℕ) → GoesThrough target r → MayRead r) → Matches s t → RR xs ys → Known RP (target_of d s.at xs target) (target_of e t.at ys target)
   target_related s t xs ys (Ahead n) may h r = laws.ahead s.at t.at n h.at
   target_related s t xs ys (Through q) may h r = laws.place _ _ (register_related xs ys q (may q refl) r)
 
@@ -177,7 +177,7 @@ module _ {V B T P V' B' T' P' : Type 0} {d : Domain V B T P} {e : Domain V' B' T
   going_matches : (size : ℕ) (s : State V B T P) (t : State V' B' T' P') (xs : List V) (ys : List V') (link : Bool) (p : P) (q : P') → ((r : ℕ) → Links link r → MayWrite r) → Matches s t → RR xs ys → RP p q → Matches (going d size s xs link p) (going e size t ys link q)
   going_matches size s t xs ys link p q may h r there = record { at = there; registers = linked_related xs ys _ _ link may (laws.ahead s.at t.at size h.at) r; condition = h.condition; byte = h.byte }
 
-  branches_simulated : (size : ℕ) (s : State V B T P) (t : State V' B' T' P') (xs : List V) (ys : List V') (target : Target) (link taken : Bool) → ((r : ℕ) → GoesThrough target r → MayRead r) → ((r : ℕ) → Links link r → MayWrite r) → Matches s t → RR xs ys → Simulates (branches d size s xs target link taken) (branches e size t ys target link taken)
+  branches_simulated : (size : ℕ) (s : State V B T P) (t : State V' B' T' P') (xs : List V) (ys : List V') (target : BranchTarget) (link taken : Bool) → ((r : ℕ) → GoesThrough target r → MayRead r) → ((r : ℕ) → Links link r → MayWrite r) → Matches s t → RR xs ys → Simulates (branches d size s xs target link taken) (branches e size t ys target link taken)
   branches_simulated size s t xs ys target link true may may' h r =
       need_simulated RP Matches (target_of d s.at xs target) (target_of e t.at ys target) why.Value _ _ (target_related s t xs ys target may h r) (λ p q there. going_matches size s t xs ys link p q may' h r there)
   branches_simulated size s t xs ys target link false may may' h r = going_matches size s t xs ys link _ _ may' h r (laws.ahead s.at t.at size h.at)
@@ -186,11 +186,11 @@ module _ {V B T P V' B' T' P' : Type 0} {d : Domain V B T P} {e : Domain V' B' T
   wanted_related s t Always h = refl
   wanted_related s t (Bit bit value) h = laws.bit _ _ (pairwise_at RT s.condition t.condition bit d.no_bit e.no_bit laws.no_bit h.condition)
 
-  branch_if_simulated : (size : ℕ) (s : State V B T P) (t : State V' B' T' P') (xs : List V) (ys : List V') (counted : Bool) (condition : Condition) (target : Target) (link : Bool) → ((r : ℕ) → GoesThrough target r → MayRead r) → ((r : ℕ) → Links link r → MayWrite r) → Matches s t → RR xs ys → Simulates (branch_if d size s xs counted condition target link) (branch_if e size t ys counted condition target link)
+  branch_if_simulated : (size : ℕ) (s : State V B T P) (t : State V' B' T' P') (xs : List V) (ys : List V') (counted : Bool) (condition : Condition) (target : BranchTarget) (link : Bool) → ((r : ℕ) → GoesThrough target r → MayRead r) → ((r : ℕ) → Links link r → MayWrite r) → Matches s t → RR xs ys → Simulates (branch_if d size s xs counted condition target link) (branch_if e size t ys counted condition target link)
   branch_if_simulated size s t xs ys counted condition target link may may' h r =
       need_same Matches (wanted d s.condition condition) (wanted e t.condition condition) why.Value _ _ (wanted_related s t condition h) (λ b. branches_simulated size s t xs ys target link (counted && met condition b) may may' h r)
 
-  branch_simulated : (size : ℕ) (s : State V B T P) (t : State V' B' T' P') (counter : Counter) (condition : Condition) (target : Target) (link : Bool) → Confined MayRead MayWrite Loads Stores (Branch counter condition target link) → Matches s t → Simulates (branch d size s counter condition target link) (branch e size t counter condition target link)
+  branch_simulated : (size : ℕ) (s : State V B T P) (t : State V' B' T' P') (counter : Counter) (condition : Condition) (target : BranchTarget) (link : Bool) → Confined MayRead MayWrite Loads Stores (Branch counter condition target link) → Matches s t → Simulates (branch d size s counter condition target link) (branch e size t counter condition target link)
   branch_simulated size s t Kept condition target link c h = branch_if_simulated size s t s.registers t.registers true condition target link (λ r g. c.reads r (inr g)) (λ r l. c.writes r (inr l)) h h.registers
   branch_simulated size s t (Lowered is_zero) condition target link c h =
       need_same Matches (d.number (register d s.registers count_register)) (e.number (register e t.registers count_register)) why.Value _ _ (laws.number _ _ (register_related s.registers t.registers count_register (c.reads count_register (inl refl)) h.registers))
@@ -236,7 +236,7 @@ bytewise_memories {RB} laws ranges = record {
 }
 
 pub same_ranges : (ranges : List Range) → AllowsMore ranges ranges
-same_ranges ranges = record { allowed = λ access at count h. h }
+same_ranges ranges = record { allowed = λ purpose at count h. h }
 
 -- The same over all registers and all of memory: registers pairwise, and bytes at each address.
 pub exec_related : {V B T P V' B' T' P' : Type 0} {d : Domain V B T P} {e : Domain V' B' T' P'} {RV : V → V' → Type 0} {RB : B → B' → Type 0} {RT : T → T' → Type 0} {RP : P → P' → Type 0} (laws : Related d e RV RB RT RP) (size : ℕ) (ranges : List Range) (op : Operation) (s s' : State V B T P) (t : State V' B' T' P') → Match RT RP (Pairwise RV) (Bytewise RB) s t → exec d size ranges op s ≡ Went s' → (t' : State V' B' T' P') × (exec e size ranges op t ≡ Went t') × Match RT RP (Pairwise RV) (Bytewise RB) s' t'

@@ -11,7 +11,7 @@ use Rattle.power_insns.specs.declared.uses.Access.TheVariants as memory
 use Rattle.power_insns.specs.Arithmetic.{bytes_of}
 use Rattle.power_insns.specs.Operations.{operation_of}
 use Rattle.power_insns.specs.Uses.{Reads, Writes, access_of}
-use Rattle.power_machine.specs.declared.memory.Access.TheVariants.{Loading, Storing}
+use Rattle.power_machine.specs.declared.memory.Purpose.TheVariants.{Loading, Storing}
 use Rattle.power_machine.specs.declared.reason.Reason.{Reason}
 use Rattle.power_machine.specs.declared.reason.Reason.TheVariants as why
 use Rattle.power_machine.specs.Memory.{Range, allows, bytes_from, put}

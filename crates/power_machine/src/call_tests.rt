@@ -120,6 +120,54 @@ fn a_write_is_answered_whole_short_and_by_error(rt: HostRuntime) -> Result<(), F
 }
 
 #[test]
+fn a_call_of_length_0_may_have_any_address(rt: HostRuntime) -> Result<(), Fail> {
+    for (words, answers, number, address, error, status) in [
+        // li r0,3; li r3,1; li r4,-1; li r5,0; sc; li r0,1; sc
+        (
+            "38000003 38600001 3880FFFF 38A00000 44000002 38000001 44000002",
+            "whole",
+            3,
+            u64::MAX,
+            0,
+            0,
+        ),
+        // the same at the start of text, where nothing may be stored
+        (
+            "38000003 38600001 38801040 38A00000 44000002 38000001 44000002",
+            "short 2",
+            3,
+            0x1040,
+            0,
+            0,
+        ),
+        // li r0,4; li r3,1; li r4,0; li r5,0; sc; li r0,1; sc
+        (
+            "38000004 38600001 38800000 38A00000 44000002 38000001 44000002",
+            "whole",
+            4,
+            0,
+            0,
+            0,
+        ),
+        // the same at -1
+        (
+            "38000004 38600001 3880FFFF 38A00000 44000002 38000001 44000002",
+            "error 5",
+            4,
+            u64::MAX,
+            5,
+            5,
+        ),
+    ] {
+        let mut machine = Machine::load(rt.alloc(), program(rt.alloc(), [0, 0], &[words])?)?;
+        let mut world = world(rt.alloc(), "hi\n", answers)?;
+        assert_eq!(rt; machine.run(99, &mut world), Outcome::Exited(status));
+        all_are(&rt, machine.events(), &[(number, 1, address, 0, "", error)]);
+    }
+    Ok(())
+}
+
+#[test]
 fn a_program_copies_its_input_whatever_the_answers(rt: HostRuntime) -> Result<(), Fail> {
     // li r0,3; li r3,0; li r4,0x1010; li r5,4; sc; cmpdi r3,0; beq .+24; mr r5,r3; li r0,4; li r3,1; sc; b .-44; li r0,1; sc
     let words =

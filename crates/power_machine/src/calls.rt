@@ -6,7 +6,7 @@ ghost use Rattle.power_machine.specs.Numbers.{core_ranges, state_of};
 ghost use Rattle.power_machine.specs.Steps.{run_of, machine_ranges, Performs};
 
 use crate::machine::{Machine, StepOutcome};
-use crate::memory::Access;
+use crate::memory::Purpose;
 use crate::reason::Reason;
 use crate::state::Core;
 use crate::world::{Answer, Event, World};
@@ -56,7 +56,7 @@ impl Machine {
     {
         let address = self.core.registers[4];
         let length = self.core.registers[5];
-        if !self.core.memory.allows(Access::Storing, address, length) {
+        if !self.core.memory.allows(Purpose::Storing, address, length) {
             return StepOutcome::Left(Reason::Store, self.core.at);
         }
         let answer = world.next();
@@ -70,7 +70,7 @@ impl Machine {
         if self.events.push(event).is_err() {
             return StepOutcome::Memory;
         }
-        self.core.memory.write(address, length, bytes);
+        self.core.memory.fill(address, length, bytes);
         self.core.called(answer, count);
         world.take(most);
         StepOutcome::Went

@@ -3,7 +3,7 @@ ghost use Rattle.std.specs.Prelude.{◌≡◌, ◌%◌, ◌+◌, ◌^◌, ◌==�
 ghost use Rattle.power_machine.specs.Memory.{ranges_of, byte_at};
 ghost use Rattle.power_machine.specs.Codes.{Stands, is_executable, word_in, HasNoWord};
 
-use crate::memory::{Access, Memory};
+use crate::memory::{AddressSpace, Purpose};
 use power_insns::meaning::Width;
 use power_insns::{Insn, decode};
 use prefixed_insns::{PInsn, decode_pair};
@@ -25,18 +25,18 @@ pub enum Code {
 }
 
 // The word at an address, where it is executable.
-fn fetch(memory: &Memory, at: u64) -> Option<u32>
+fn fetch(memory: &AddressSpace, at: u64) -> Option<u32>
     ensures { result ≡ (if is_executable (ranges_of memory.now.regions.items) at then Some (word_in (byte_at memory.now.regions.items) at) else None) }
 {
     if at % 4 != 0 {
         return None;
     }
-    let word = memory.number_at(Access::Fetching, at, Width::Word)?;
+    let word = memory.number_at(Purpose::Fetching, at, Width::Word)?;
     Some(word as u32)
 }
 
 /// What stands at an address.
-pub fn code_at(memory: &Memory, at: u64) -> Code
+pub fn code_at(memory: &AddressSpace, at: u64) -> Code
     ensures { Stands (ranges_of memory.now.regions.items) (byte_at memory.now.regions.items) at result }
 {
     let Some(word) = fetch(memory, at) else {
@@ -49,7 +49,7 @@ pub fn code_at(memory: &Memory, at: u64) -> Code
 }
 
 // What stands at an address whose word is no instruction.
-fn pair_at(memory: &Memory, at: u64, prefix: u32) -> Code
+fn pair_at(memory: &AddressSpace, at: u64, prefix: u32) -> Code
     requires executable { is_executable (ranges_of memory.now.regions.items) at ≡ true }
     requires prefix { prefix ≡ word_in (byte_at memory.now.regions.items) at }
     requires no_word { HasNoWord (byte_at memory.now.regions.items) at }

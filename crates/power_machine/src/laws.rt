@@ -1,12 +1,8 @@
 // What holds of steps.
 ghost use Rattle.std.specs.Prelude.{◌≡◌, ◌≢◌, ℕ, false, List, Some, slice_index_or};
-ghost use Rattle.power_insns.specs.declared.instruction.Insn.{Insn};
-ghost use Rattle.power_insns.specs.Table.{word_of};
 ghost use Rattle.power_insns.specs.declared.meaning.Operation.{Operation};
 ghost use Rattle.power_insns.specs.declared.uses.Access.TheVariants as access;
 ghost use Rattle.power_insns.specs.Uses.{Writes, access_of};
-ghost use Rattle.prefixed_insns.specs.declared.instruction.PInsn.{PInsn};
-ghost use Rattle.prefixed_insns.specs.Table.{prefix_of};
 ghost use Rattle.power_machine.specs.declared.reason.Reason.{Reason};
 ghost use Rattle.power_machine.specs.declared.machine.StepOutcome.{StepOutcome};
 ghost use Rattle.power_machine.specs.declared.machine.StepOutcome.TheVariants as outcome;
@@ -44,11 +40,6 @@ pub fn leaves_change_nothing()
 /// Calls that were made stay made: a step adds events and takes none away.
 pub fn events_only_grow()
     ensures { (ranges : List Range) (r : Run) (s : Stepped) → IsStep ranges r s → Grows r.events (run_after s r).events }
-{}
-
-/// No instruction of one word begins as one of two words does, so that taking words first hides no pair.
-pub fn no_word_begins_a_pair()
-    ensures { (i : Insn) (j : PInsn) → word_of i ≢ prefix_of j }
 {}
 
 /// So many steps, of which none leaves, are a run of so many steps.

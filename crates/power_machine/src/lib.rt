@@ -15,8 +15,7 @@ mod world;
 
 pub use laws::{
     ended_stays_ended, events_only_grow, leaves_change_nothing, loads_move_before,
-    no_word_begins_a_pair, operations_keep_the_rest, runs_are_one, steps_are_one, steps_are_runs,
-    stores_move_before,
+    operations_keep_the_rest, runs_are_one, steps_are_one, steps_are_runs, stores_move_before,
 };
 pub use machine::{Machine, Outcome, StepOutcome};
 pub use reason::Reason;

@@ -6,10 +6,10 @@ ghost use Rattle.power_machine.specs.Start.{IsStart, region_of, stack_region, ze
 
 use crate::contents::Contents;
 use crate::machine::Machine;
-use crate::memory::{Memory, Region};
+use crate::memory::{AddressSpace, Region};
 use crate::state::Core;
 use elf64_exec::{Segment, Segments};
-use ppc_bytes::Memory as WantOfMemory;
+use ppc_bytes::Memory;
 use std::alloc::Global;
 
 // Where the stack begins, and how many bytes it has.
@@ -18,7 +18,7 @@ const STACK_START: u64 = 0x7F80_0000;
 const STACK_SIZE: usize = 0x80_0000;
 
 // The region of a segment: its bytes, and zeros up to its size.
-fn region_of(segment: Segment) -> Result<Region, WantOfMemory>
+fn region_of(segment: Segment) -> Result<Region, Memory>
     requires { IsSound segment }
     ensures { IfOk result (λ r. r ≡ region_of segment) }
 {
@@ -34,7 +34,7 @@ fn region_of(segment: Segment) -> Result<Region, WantOfMemory>
 }
 
 #[tactic(auto, unfolding(crate::specs::Start::zeros))]
-fn zeros(alloc: Global, count: usize) -> Result<Contents, WantOfMemory>
+fn zeros(alloc: Global, count: usize) -> Result<Contents, Memory>
     ensures { IfOk result (λ bytes. bytes ≡ zeros count) }
 {
     let mut bytes = Vec::new(alloc);
@@ -43,7 +43,7 @@ fn zeros(alloc: Global, count: usize) -> Result<Contents, WantOfMemory>
 }
 
 // The region of the stack.
-fn stack(alloc: Global) -> Result<Region, WantOfMemory>
+fn stack(alloc: Global) -> Result<Region, Memory>
     ensures { IfOk result (λ r. r ≡ stack_region) }
 {
     let bytes = zeros(alloc, STACK_SIZE)?;
@@ -56,7 +56,7 @@ fn stack(alloc: Global) -> Result<Region, WantOfMemory>
 }
 
 // The regions of segments, and of the stack behind them.
-fn regions_of(alloc: Global, segments: Vec<Segment>) -> Result<Vec<Region>, WantOfMemory>
+fn regions_of(alloc: Global, segments: Vec<Segment>) -> Result<Vec<Region>, Memory>
     requires { ArePlaced segments.items }
     ensures { IfOk result (λ regions. regions.items ≡ map region_of segments.items ++ stack_region ∷ []) }
 {
@@ -71,7 +71,7 @@ fn regions_of(alloc: Global, segments: Vec<Segment>) -> Result<Vec<Region>, Want
 impl Machine {
     /// The machine at the start of a program (ELFv2 ABI, 4.1 "Process initialization"): r1 is the stack pointer, r12 the entry, and every
     /// other register 0. The stack of zeros lies from 0x7F800000 to 0x80000000. The segments' bytes are moved and not copied.
-    pub fn load(alloc: Global, segments: Segments) -> Result<Machine, WantOfMemory>
+    pub fn load(alloc: Global, segments: Segments) -> Result<Machine, Memory>
         requires { ArePlaced segments.list.items }
         ensures { IfOk result (λ m. IsStart segments.entry segments.list.items m) }
     {
@@ -86,7 +86,7 @@ impl Machine {
                 at: entry,
                 registers,
                 condition: [false; 32],
-                memory: Memory { regions },
+                memory: AddressSpace { regions },
             },
             events: Vec::new(alloc),
             ended: None,

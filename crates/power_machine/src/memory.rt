@@ -1,9 +1,9 @@
 // Memory: regions of bytes.
 ghost use Rattle.std.specs.Prelude.{◌≡◌, ◌+◌, ◌≤◌, ◌<◌, ◌-◌, ◌^◌, ℕ, List, length, IfSome, IfOk, true, false, if◌then◌else◌, Some, None};
 ghost use Rattle.power_insns.specs.Arithmetic.{bytes_of};
-ghost use Rattle.power_machine.specs.declared.memory.Access.TheVariants.{Loading, Storing};
+ghost use Rattle.power_machine.specs.declared.memory.Purpose.TheVariants.{Loading, Storing};
 ghost use Rattle.power_machine.specs.Bytes.{spelled};
-ghost use Rattle.power_machine.specs.Memory.{InOrder, IsPlace, permits, place_of, range_of, ranges_of, byte_at, bytes_from, put, allows};
+ghost use Rattle.power_machine.specs.Memory.{InOrder, IsPlace, permits, place_of, range_of, ranges_of, byte_at, bytes_from, put, allows, allows_range};
 
 use crate::contents::{Contents, number_in};
 use power_insns::meaning::Width;
@@ -12,7 +12,7 @@ use std::alloc::{AllocError, Global};
 
 /// What bytes of memory are wanted for.
 #[derive(Clone, Copy)]
-pub enum Access {
+pub enum Purpose {
     Loading,
     Storing,
     Fetching,
@@ -28,51 +28,61 @@ pub struct Region {
 }
 
 impl Region {
-    fn permits(&self, access: Access) -> bool
-        ensures { result ≡ permits access (range_of self.now) }
+    fn permits(&self, purpose: Purpose) -> bool
+        ensures { result ≡ permits purpose (range_of self.now) }
     {
-        match access {
-            Access::Loading => true,
-            Access::Storing => self.writable,
-            Access::Fetching => self.executable,
+        match purpose {
+            Purpose::Loading => true,
+            Purpose::Storing => self.writable,
+            Purpose::Fetching => self.executable,
         }
     }
 }
 
 /// The regions, in order of their addresses.
 #[derive(Drop)]
-pub struct Memory {
+pub struct AddressSpace {
     pub regions: Vec<Region>,
     ghost in_order: { InOrder regions.items },
 }
 
 // The region that holds so many bytes at an address.
 #[tactic(auto, using(crate::proofs::Places::place_found))]
-fn place(regions: &[Region], access: Access, at: u64, count: u64) -> Option<usize>
+fn place(regions: &[Region], purpose: Purpose, at: u64, count: u64) -> Option<usize>
     requires { InOrder regions.now }
-    ensures value { result ≡ place_of access at count regions.now }
-    ensures found { IfSome result (λ index. IsPlace access at count regions.now index) }
+    ensures value { result ≡ place_of purpose at count regions.now }
+    ensures found { IfSome result (λ index. IsPlace purpose at count regions.now index) }
 {
     regions.iter().position(|r| {
         let size = r.bytes.len() as u64;
-        r.start <= at && at - r.start <= size && count <= size - (at - r.start) && r.permits(access)
+        r.start <= at
+            && at - r.start <= size
+            && count <= size - (at - r.start)
+            && r.permits(purpose)
     })
 }
 
-impl Memory {
-    /// Whether so many bytes at an address may be used.
-    pub fn allows(&self, access: Access, at: u64, count: u64) -> bool
-        ensures { result ≡ allows access at count (ranges_of self.now.regions.items) }
+impl AddressSpace {
+    // Whether one region has so many bytes at an address for this use.
+    fn holds(&self, purpose: Purpose, at: u64, count: u64) -> bool
+        ensures { result ≡ allows purpose at count (ranges_of self.now.regions.items) }
     {
-        place(&self.regions, access, at, count).is_some()
+        place(&self.regions, purpose, at, count).is_some()
+    }
+
+    /// Whether a call's range may be used. A range without bytes may, wherever it lies.
+    pub fn allows(&self, purpose: Purpose, at: u64, count: u64) -> bool
+        ensures { result ≡ allows_range purpose at count (ranges_of self.now.regions.items) }
+    {
+        count == 0 || self.holds(purpose, at, count)
     }
 
     /// The number at an address, where it may be used.
-    pub fn number_at(&self, access: Access, at: u64, width: Width) -> Option<u64>
-        ensures value { result ≡ (if allows access at (bytes_of width) (ranges_of self.now.regions.items) then Some (spelled (bytes_from (byte_at self.now.regions.items) at (bytes_of width))) else None) }
+    pub fn number_at(&self, purpose: Purpose, at: u64, width: Width) -> Option<u64>
+        ensures value { result ≡ (if allows purpose at (bytes_of width) (ranges_of self.now.regions.items) then Some (spelled (bytes_from (byte_at self.now.regions.items) at (bytes_of width))) else None) }
         ensures bound { IfSome result (λ n. n < 256 ^ bytes_of width) }
     {
-        let Some(index) = place(&self.regions, access, at, size_of(width)) else {
+        let Some(index) = place(&self.regions, purpose, at, size_of(width)) else {
             return None;
         };
         let region = &self.regions[index];
@@ -87,7 +97,7 @@ impl Memory {
         ensures stored { result ≡ true → byte_at self.new.regions.items ≡ put (byte_at self.old.regions.items) at bytes.now }
         ensures refused { result ≡ false → self.new ≡ self.old }
     {
-        let Some(index) = place(&self.regions, Access::Storing, at, room) else {
+        let Some(index) = place(&self.regions, Purpose::Storing, at, room) else {
             return false;
         };
         let region = &mut self.regions[index];
@@ -96,8 +106,20 @@ impl Memory {
         true
     }
 
-    /// The first bytes at an address, where a number of bytes may be loaded there.
-    pub fn copy_at(
+    /// Puts bytes into a call's range that may be stored into.
+    pub fn fill(&mut self, at: u64, room: u64, bytes: &[u8])
+        requires fits { length bytes.now ≤ room }
+        requires allowed { allows_range Storing at room (ranges_of self.old.regions.items) ≡ true }
+        ensures ranges { ranges_of self.new.regions.items ≡ ranges_of self.old.regions.items }
+        ensures filled { byte_at self.new.regions.items ≡ put (byte_at self.old.regions.items) at bytes.now }
+    {
+        if room > 0 {
+            self.write(at, room, bytes);
+        }
+    }
+
+    // The first bytes at an address, where a number of bytes may be loaded there.
+    fn bytes_at(
         &self,
         alloc: Global,
         at: u64,
@@ -107,13 +129,30 @@ impl Memory {
         requires { count ≤ room }
         ensures { IfOk result (λ bytes. bytes ≡ (if allows Loading at room (ranges_of self.now.regions.items) then Some (bytes_from (byte_at self.now.regions.items) at count) else None)) }
     {
-        let Some(index) = place(&self.regions, Access::Loading, at, room) else {
+        let Some(index) = place(&self.regions, Purpose::Loading, at, room) else {
             return Ok(None);
         };
         let region = &self.regions[index];
         let from = (at - region.start) as usize;
         let bytes = region.bytes.as_slice();
         Ok(Some(Bytes::of(Vec::from_slice(alloc, &bytes[from..from + count as usize])?)))
+    }
+
+    /// The first bytes of a call's range, where it may be loaded from.
+    pub fn copy_at(
+        &self,
+        alloc: Global,
+        at: u64,
+        room: u64,
+        count: u64,
+    ) -> Result<Option<Bytes>, AllocError>
+        requires { count ≤ room }
+        ensures { IfOk result (λ bytes. bytes ≡ (if allows_range Loading at room (ranges_of self.now.regions.items) then Some (bytes_from (byte_at self.now.regions.items) at count) else None)) }
+    {
+        if room == 0 {
+            return Ok(Some(Bytes::of(Vec::new(alloc))));
+        }
+        self.bytes_at(alloc, at, room, count)
     }
 }
 

@@ -5,11 +5,12 @@ ghost use Rattle.power_insns.specs.Operations.{IsWellNamed, NamesOperand, NamesT
 ghost use Rattle.power_machine.specs.Machines.{Went, agrees, with_field, with_result, with_order, load_at, store_at, branch, exec, divide as divide_of, value_of, wanted, met, target_of, one_less, sum_address};
 ghost use Rattle.power_machine.specs.Numbers.{Did, numbers, state_of, core_ranges};
 
-use crate::memory::{Access, Memory, size_of};
+use crate::memory::{AddressSpace, Purpose, size_of};
 use crate::reason::Reason;
 use power_insns::compute::{compare, compute, divide, widen};
 use power_insns::meaning::{
-    COUNT_REGISTER, Condition, Counter, LINK_REGISTER, Operand, Operation, Sign, Target, Width,
+    BranchTarget, COUNT_REGISTER, Condition, Counter, LINK_REGISTER, Operand, Operation, Sign,
+    Width,
 };
 
 /// r0 to r31 with LR and CTR behind them, the bits of CR, memory, and the address of the next instruction.
@@ -18,7 +19,7 @@ pub struct Core {
     pub at: u64,
     pub registers: [u64; 34],
     pub condition: [bool; 32],
-    pub memory: Memory,
+    pub memory: AddressSpace,
 }
 
 /// What an operation came to.
@@ -97,7 +98,7 @@ impl Core {
         requires { to < 34 }
         ensures { Did (load_at numbers size (core_ranges self.old) (state_of self.old) width sign to at) self.old self.new result }
     {
-        match self.memory.number_at(Access::Loading, at, width) {
+        match self.memory.number_at(Purpose::Loading, at, width) {
             Some(n) => self.finish(size, to, widen(width, sign, n), false),
             None => CoreOutcome::Left(Reason::Load),
         }
@@ -139,13 +140,13 @@ impl Core {
         }
     }
 
-    fn target_of(&self, target: Target) -> u64
+    fn target_of(&self, target: BranchTarget) -> u64
         requires { NamesTarget target }
         ensures { target_of numbers self.now.at self.now.registers target ≡ Some result }
     {
         match target {
-            Target::Ahead(n) => self.at.wrapping_add(n),
-            Target::Through(r) => self.registers[r as usize] / 4 * 4,
+            BranchTarget::Ahead(n) => self.at.wrapping_add(n),
+            BranchTarget::Through(r) => self.registers[r as usize] / 4 * 4,
         }
     }
 
@@ -154,7 +155,7 @@ impl Core {
         size: u64,
         counter: Counter,
         condition: Condition,
-        target: Target,
+        target: BranchTarget,
         link: bool,
     ) -> CoreOutcome
         requires bit { NamesBit condition }

@@ -1,3 +1,3 @@
-pub mod Laws
+pub mod laws
 pub mod Meaning
 pub mod Table

@@ -1,5 +1,7 @@
 // What callers may rely on about the words of pairs.
-ghost use Rattle.std.specs.Prelude.{◌≡◌, ◌<◌, ◌^◌};
+ghost use Rattle.std.specs.Prelude.{◌≡◌, ◌≢◌, ◌<◌, ◌^◌};
+ghost use Rattle.power_insns.specs.declared.instruction.Insn.{Insn};
+ghost use Rattle.power_insns.specs.Table.{word_of};
 ghost use Rattle.power_insns.specs.Words.{total_bits, EachHolds};
 ghost use Rattle.prefixed_insns.specs.declared.instruction.PInsn.{PInsn};
 ghost use Rattle.prefixed_insns.specs.Table.{prefix_fields, suffix_fields, prefix_of, suffix_of, Fits};
@@ -15,4 +17,9 @@ pub fn pairs_are_two_words()
 /// No two instructions have the same two words.
 pub fn pairs_tell_their_instruction()
     ensures { (i j : PInsn) → Fits i → Fits j → prefix_of i ≡ prefix_of j → suffix_of i ≡ suffix_of j → i ≡ j }
+{}
+
+/// No instruction of one word begins as one of two words does, so that taking words first hides no pair.
+pub fn no_word_begins_a_pair()
+    ensures { (i : Insn) (j : PInsn) → word_of i ≢ prefix_of j }
 {}

@@ -4,7 +4,7 @@ use mir.Val.{to_z, of_z}
 use mir.Syntax.{w64}
 use Rattle.prefixed_insns.specs.declared.instruction.PInsn.{PInsn}
 use Rattle.prefixed_insns.specs.Table.{prefix_of, suffix_of, Fits}
-use Rattle.prefixed_insns.specs.Laws.{insn_with, one_pair}
+use Rattle.prefixed_insns.specs.laws.Pairs.{insn_with, one_pair}
 use Rattle.prefixed_insns.proofs.decoding.decode_pair.Goals as goal
 
 pub returns-clause-only : goal.returns-clause-only

@@ -3,20 +3,20 @@ use Rattle.power_insns.specs.Arithmetic.{bytes_of}
 use Rattle.power_machine.specs.Bytes.{spelled}
 use Rattle.power_machine.specs.Memory.{place_of, IsPlace}
 use Rattle.power_machine.proofs.Places.{read_none, read_some}
-use Rattle.power_machine.proofs.memory.Memory.number_at.Goals as goal
+use Rattle.power_machine.proofs.memory.AddressSpace.number_at.Goals as goal
 
 pub returns-in_default-clause-value : goal.returns-in_default-clause-value
 returns-in_default-clause-value c =
     let n = bytes_of c.args.width in
-    read_none spelled c.args.access _ _ c.args.at n n c.place.result c.deref.ensures.value c.in_default.is
-    (c.place.ensures.value ∙ ap (λ k. place_of c.args.access c.args.at k c.deref.result.now) c.size_of.ensures)
+    read_none spelled c.args.purpose _ _ c.args.at n n c.place.result c.deref.ensures.value c.in_default.is
+    (c.place.ensures.value ∙ ap (λ k. place_of c.args.purpose c.args.at k c.deref.result.now) c.size_of.ensures)
 
 pub returns-clause-value : goal.returns-clause-value
 returns-clause-value c =
     let n = bytes_of c.args.width in
     let s = c.index-region.result.now in
-    read_some spelled c.args.access c.args.self.now.regions.items _ c.args.at n n c.place.result c.in-Some.index c.number_in.result s c.args.self.now.in_order c.deref.ensures.value c.in-Some.is
-    (c.place.ensures.value ∙ ap (λ k. place_of c.args.access c.args.at k c.deref.result.now) c.size_of.ensures)
-    (subst (λ k. IsPlace c.args.access c.args.at k c.deref.result.now c.in-Some.index) c.size_of.ensures c.in-Some.ensures.found)
+    read_some spelled c.args.purpose c.args.self.now.regions.items _ c.args.at n n c.place.result c.in-Some.index c.number_in.result s c.args.self.now.in_order c.deref.ensures.value c.in-Some.is
+    (c.place.ensures.value ∙ ap (λ k. place_of c.args.purpose c.args.at k c.deref.result.now) c.size_of.ensures)
+    (subst (λ k. IsPlace c.args.purpose c.args.at k c.deref.result.now c.in-Some.index) c.size_of.ensures c.in-Some.ensures.found)
     c.index-region.ensures (omega arith)
     (c.number_in.ensures.value ∙ ap (λ xs. spelled (take n (drop (c.args.at - s.start) xs))) c.as_slice.ensures)

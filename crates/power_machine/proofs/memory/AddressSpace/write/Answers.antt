@@ -1,7 +1,7 @@
 use Rattle.std.proofs.Common.{refl}
-use Rattle.power_machine.specs.declared.memory.Access.TheVariants.{Storing}
+use Rattle.power_machine.specs.declared.memory.Purpose.TheVariants.{Storing}
 use Rattle.power_machine.proofs.Places.{allowed_is, stored}
-use Rattle.power_machine.proofs.memory.Memory.write.Goals as goal
+use Rattle.power_machine.proofs.memory.AddressSpace.write.Goals as goal
 
 pub returns-in_default-clause-allowed : goal.returns-in_default-clause-allowed
 returns-in_default-clause-allowed c = allowed_is Storing _ _ c.args.at c.args.room c.place.result _ c.deref.ensures.value c.in_default.is c.place.ensures.value

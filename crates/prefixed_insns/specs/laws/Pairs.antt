@@ -1,7 +1,7 @@
 -- Two words, one instruction.
 use Rattle.std.proofs.Common.{◌≡◌, ◌<◌, ℕ, ℤ, Bool, true, false, refl, arith, rules}
 use Rattle.power_insns.specs.Words.{low_of, flag, InSigned}
-use Rattle.power_insns.specs.Bounds.{low_of-lt, flag-lt}
+use Rattle.power_insns.specs.laws.Bounds.{low_of-lt, flag-lt}
 use Rattle.prefixed_insns.specs.declared.instruction.POp.{POp}
 use Rattle.prefixed_insns.specs.declared.instruction.POp.TheVariants.{Paddi}
 use Rattle.prefixed_insns.specs.declared.instruction.PInsn.{PInsn}

@@ -2,10 +2,10 @@
 use Rattle.std.proofs.Common.{◌≢◌, ◌≤◌, ◌<◌, arith, rules}
 use Rattle.power_insns.specs.declared.instruction.Insn.{Insn}
 use Rattle.power_insns.specs.Table.{word_of}
-use Rattle.power_insns.specs.Bounds.{low_of-lt, flag-lt}
+use Rattle.power_insns.specs.laws.Bounds.{low_of-lt, flag-lt}
 use Rattle.prefixed_insns.specs.declared.instruction.PInsn.{PInsn}
 use Rattle.prefixed_insns.specs.Table.{prefix_of}
-use Rattle.prefixed_insns.specs.Laws.{type_of-lt}
+use Rattle.prefixed_insns.specs.laws.Pairs.{type_of-lt}
 
 -- primary opcodes of words are 7 and more
 words_are_high : (i : Insn) → 0x8000000 ≤ word_of i

@@ -1,7 +1,7 @@
 use Rattle.std.proofs.Common.{ap, ◌≡◌, ◌∙◌, ◌-◌, ◌+◌, take, drop, arith}
-use Rattle.power_machine.specs.declared.memory.Access.TheVariants.{Loading}
+use Rattle.power_machine.specs.declared.memory.Purpose.TheVariants.{Loading}
 use Rattle.power_machine.proofs.Places.{read_none, read_some}
-use Rattle.power_machine.proofs.memory.Memory.copy_at.Goals as goal
+use Rattle.power_machine.proofs.memory.AddressSpace.bytes_at.Goals as goal
 
 pub returns-in_default : goal.returns-in_default
 returns-in_default c = read_none (λ xs. xs) Loading _ _ c.args.at c.args.room c.args.count c.place.result c.deref.ensures.value c.in_default.is c.place.ensures.value
