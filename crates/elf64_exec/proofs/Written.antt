@@ -1,6 +1,7 @@
 -- What was written is read back.
 use Rattle.std.proofs.Common.{ℕ, zero, suc, ◌+◌, ◌*◌, ◌^◌, ◌≡◌, ◌<◌, ◌≤◌, inr, List, [], ◌∷◌, ◌++◌, length, get_or, take, drop, Option, Some, refl, sym, ap, ◌∙◌, subst, append_assoc, add-zero, zero-add, arith}
 use Rattle.std.specs.List.{All, filter_map, cons_option, range_with_len}
+use Rattle.std.proofs.lemmas.Bool.Decides.{nat_tests}
 use Rattle.std.proofs.lemmas.List.{length-append}
 use Rattle.ppc_bytes.specs.Bytes.{number_at}
 use Rattle.elf64_exec.specs.declared.layout.Segment.{Segment}
@@ -109,7 +110,7 @@ module _ (file : List ℕ) (entry : ℕ) (segments : List Segment) (holds : Hold
       let few : length segments ≤ 3 = image.few in
       let some : 1 ≤ length segments = image.some in
       record {
-        magic = (omega (arith, holds.long_enough), h.magic);
+        magic = grind (arith, nat_tests, holds.long_enough, h.magic);
         header = record {
           whole = omega (arith, holds.long_enough);
           machine = h.machine;

@@ -5,7 +5,7 @@ use Rattle.byteorder.specs.Endian.{little_bytes}
 use Rattle.byteorder.specs.Numbers.{little_number-reads_back, length-bytes_low_first}
 use Rattle.ppc_bytes.specs.Bytes.{number, number_at}
 use Rattle.ppc_bytes.specs.Elf.{IsPpc64Le}
-use Rattle.ppc_bytes.specs.Laws.{number-take}
+use Rattle.ppc_bytes.specs.laws.Places.{number-take}
 use Rattle.elf64_exec.specs.declared.layout.Segment.{Segment}
 use Rattle.elf64_exec.specs.Executable.{identification, half, word, long, file_header, program_header, program_headers, page_up}
 use Rattle.elf64_exec.specs.Loading.{e_type, e_entry, e_phoff, e_flags, e_phentsize, e_phnum}
@@ -32,7 +32,7 @@ pub file_header_says : (entry count : ℕ) (rest : List ℕ) → entry < 2 ^ 64 
 unfolding file_header identification half word long
 file_header_says entry count rest entry_fits count_fits = record {
   magic = refl;
-  machine = (refl, refl, refl, refl, refl);
+  machine = refl;
   kind = refl;
   entry_is = spelled 8 entry entry_fits;
   headers_at = refl;

@@ -3,6 +3,7 @@
 use Rattle.std.specs.Prelude.{ℕ, ◌≡◌, ◌+◌, ◌*◌, ◌<◌, ◌≤◌, ◌⊎◌, ◌==◌, ◌&&◌, if◌then◌else◌, nat_lt, List, length, take, drop, Option, Some, None}
 use Rattle.std.specs.List.{filter_map, range_with_len}
 use Rattle.ppc_bytes.specs.Bytes.{number_at}
+pub use Rattle.ppc_bytes.specs.Elf.{e_type, e_flags}
 use Rattle.ppc_bytes.specs.Elf.{HasMagic, IsPpc64Le}
 use Rattle.elf64_exec.specs.declared.layout.Segment.{Segment}
 use Rattle.elf64_exec.specs.declared.memory_map.TheConstants.{MEMORY_END}
@@ -10,17 +11,11 @@ use Rattle.elf64_exec.specs.declared.layout.ExecFault.{ExecFault}
 use Rattle.elf64_exec.specs.declared.layout.ExecFault.TheVariants.{NotElf, NotExec, BadSegment, Memory}
 
 -- the fields of the file header
-abbrev pub e_type : List ℕ → ℕ
-e_type file = number_at 2 file 16
-
 abbrev pub e_entry : List ℕ → ℕ
 e_entry file = number_at 8 file 24
 
 abbrev pub e_phoff : List ℕ → ℕ
 e_phoff file = number_at 8 file 32
-
-abbrev pub e_flags : List ℕ → ℕ
-e_flags file = number_at 4 file 48
 
 abbrev pub e_phentsize : List ℕ → ℕ
 e_phentsize file = number_at 2 file 54

@@ -1,5 +1,6 @@
 -- What makes a file no object file that is read, in the order in which it is said. Sums don't wrap.
 use Rattle.std.specs.Prelude.{ℕ, ◌+◌, ◌-◌, ◌*◌, ◌/◌, ◌%◌, Bool, not, List, length, ◌||◌, ◌&&◌, ◌==◌, nat_lt, nat_le, Option, None, if◌then◌else◌}
+use Rattle.elf64_records.specs.declared.constants.TheConstants.{ET_REL, ET_DYN}
 use Rattle.elf64_records.specs.declared.fault.ElfFault.{ElfFault}
 use Rattle.elf64_records.specs.declared.fault.ElfFault.TheVariants.{NotElf, NotPpc64Le, SharedObject, NotObject, BadAbi, BadTable}
 use Rattle.elf64_records.specs.declared.fault.Place.TheVariants.{File, Section, Symbol, Record}
@@ -20,8 +21,8 @@ kind_fault b =
     when (not (has_magic b)) NotElf
     orelse when (nat_lt (length b) 64) (BadTable File)
     orelse when (not (is_ppc64_le b)) NotPpc64Le
-    orelse when (e_type b == 3) SharedObject
-    orelse when (not (e_type b == 1)) NotObject
+    orelse when (e_type b == ET_DYN) SharedObject
+    orelse when (not (e_type b == ET_REL)) NotObject
     orelse when (not (e_flags b == 0 || e_flags b == 2)) BadAbi
 
 -- the section headers lie in the file, 64 bytes for each section, and the sections' names have a string table

@@ -5,5 +5,4 @@ pub mod Names
 pub mod Symbols
 pub mod Records
 pub mod Faults
-pub mod Laws
-pub mod Whole
+pub mod laws

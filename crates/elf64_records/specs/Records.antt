@@ -35,14 +35,14 @@ unfoldable pub r_addend : List ℕ → ℕ → ℕ → ℤ
 r_addend b i k = cast_signed w64 (number_at 8 b (record_place b i k + 16))
 
 -- what a file says of one record
-pub record RelaEntry : Type 0 where
+pub record RecordFacts : Type 0 where
   pub offset : ℕ
   pub kind : ℕ
   pub symbol : ℕ
   pub addend : ℤ
 
 -- record k of section i
-abbrev pub rela_of : List ℕ → ℕ → ℕ → RelaEntry
+abbrev pub rela_of : List ℕ → ℕ → ℕ → RecordFacts
 rela_of b i k = record {
   offset = r_offset b i k;
   kind = r_type b i k;

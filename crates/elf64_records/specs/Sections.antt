@@ -2,6 +2,7 @@
 -- offset there.
 use Rattle.std.specs.Prelude.{ℕ, ◌+◌, ◌*◌, Bool, not, List, [], ◌||◌, ◌&&◌, ◌==◌, bit_and, slice_range, if◌then◌else◌}
 use Rattle.ppc_bytes.specs.Bytes.{number_at}
+use Rattle.elf64_records.specs.declared.constants.TheConstants.{SHT_NULL, SHT_SYMTAB, SHT_STRTAB, SHT_RELA, SHT_NOBITS, SHF_ALLOC}
 use Rattle.elf64_records.specs.FileHeader.{e_shoff, e_shstrndx}
 use Rattle.elf64_records.specs.Names.{name_at}
 
@@ -38,27 +39,24 @@ sh_entsize b i = number_at 8 b (header_place b i + 56)
 
 -- the type that section i counts as: section 0 counts as of type NULL, whatever its header says
 abbrev pub type_of : List ℕ → ℕ → ℕ
-type_of b i = if i == 0 then 0 else sh_type b i
+type_of b i = if i == 0 then SHT_NULL else sh_type b i
 
--- SHT_STRTAB
 abbrev pub is_string_table : List ℕ → ℕ → Bool
-is_string_table b i = type_of b i == 3
+is_string_table b i = type_of b i == SHT_STRTAB
 
--- SHT_SYMTAB
 abbrev pub is_symbol_table : List ℕ → ℕ → Bool
-is_symbol_table b i = type_of b i == 2
+is_symbol_table b i = type_of b i == SHT_SYMTAB
 
--- SHT_RELA
 abbrev pub is_rela : List ℕ → ℕ → Bool
-is_rela b i = type_of b i == 4
+is_rela b i = type_of b i == SHT_RELA
 
--- neither SHT_NULL nor SHT_NOBITS: the section's bytes stand in the file
+-- the section's bytes stand in the file
 abbrev pub has_bytes : List ℕ → ℕ → Bool
-has_bytes b i = not (type_of b i == 0 || type_of b i == 8)
+has_bytes b i = not (type_of b i == SHT_NULL || type_of b i == SHT_NOBITS)
 
 -- the section is kept by a link: it has SHF_ALLOC. Section 0 counts as without it
 abbrev pub is_kept : List ℕ → ℕ → Bool
-is_kept b i = not (i == 0) && not (bit_and (sh_flags b i) 2 == 0)
+is_kept b i = not (i == 0) && not (bit_and (sh_flags b i) SHF_ALLOC == 0)
 
 -- the bytes of section i
 abbrev pub section_bytes : List ℕ → ℕ → List ℕ
@@ -69,7 +67,7 @@ abbrev pub section_names : List ℕ → List ℕ
 section_names b = section_bytes b (e_shstrndx b)
 
 -- what a file says of one section
-pub record SectionEntry : Type 0 where
+pub record SectionFacts : Type 0 where
   pub name : List ℕ
   pub kind : ℕ
   pub flags : ℕ
@@ -80,7 +78,7 @@ pub record SectionEntry : Type 0 where
   pub bytes : List ℕ
 
 -- section i of a file; section 0 has no name and no bytes, and the numbers of its header
-abbrev pub section_of : List ℕ → ℕ → SectionEntry
+abbrev pub section_of : List ℕ → ℕ → SectionFacts
 section_of b i = record {
   name = if i == 0 then [] else name_at (section_names b) (sh_name b i);
   kind = sh_type b i;

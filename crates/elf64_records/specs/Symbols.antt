@@ -46,7 +46,7 @@ abbrev pub symbol_names : List ℕ → List ℕ
 symbol_names b = section_bytes b (sh_link b (symbol_table b))
 
 -- what a file says of one symbol
-pub record SymbolEntry : Type 0 where
+pub record SymbolFacts : Type 0 where
   pub name : List ℕ
   pub info : ℕ
   pub other : ℕ
@@ -55,7 +55,7 @@ pub record SymbolEntry : Type 0 where
   pub size : ℕ
 
 -- symbol j of a file
-abbrev pub symbol_of : List ℕ → ℕ → SymbolEntry
+abbrev pub symbol_of : List ℕ → ℕ → SymbolFacts
 symbol_of b j = record {
   name = name_at (symbol_names b) (st_name b j);
   info = st_info b j;

@@ -1,31 +1,14 @@
 // The file header and the section headers.
 ghost use Rattle.std.specs.Prelude.{◌≡◌, ◌<◌, ◌≤◌, ◌+◌, ◌*◌, IfOk, None, length};
+ghost use Rattle.elf64_records.specs.declared.constants.TheConstants.{FILE_LIMIT};
 ghost use Rattle.elf64_records.specs.First.{Refuses};
 ghost use Rattle.elf64_records.specs.FileHeader.{e_shoff, e_shnum, e_shstrndx};
 ghost use Rattle.elf64_records.specs.Sections.{sh_name, sh_type, sh_flags, sh_offset, sh_size, sh_link, sh_info, sh_addralign, sh_entsize, type_of, has_bytes, is_kept};
 ghost use Rattle.elf64_records.specs.Faults.{header_fault, kind_fault, has_entries};
 
+use crate::constants::{ET_DYN, ET_REL, FILE_LIMIT, SHF_ALLOC, SHT_NOBITS, SHT_NULL, SHT_STRTAB};
 use crate::fault::{ElfFault, Place};
 use ppc_bytes::{half_at, has_magic, is_ppc64_le, long_at, word_at};
-
-/// File types (e_type).
-const ET_REL: u16 = 1;
-
-const ET_DYN: u16 = 3;
-
-/// Section types (sh_type).
-const SHT_NULL: u32 = 0;
-
-pub const SHT_SYMTAB: u32 = 2;
-
-pub const SHT_STRTAB: u32 = 3;
-
-pub const SHT_RELA: u32 = 4;
-
-const SHT_NOBITS: u32 = 8;
-
-/// The flag of a section that stands in memory (sh_flags).
-const SHF_ALLOC: u64 = 2;
 
 /// The section headers of a file whose file header has no fault.
 #[derive(Clone, Copy)]
@@ -34,7 +17,7 @@ pub struct Headers<'a> {
     pub start: usize,
     pub count: u32,
     ghost whole: { header_fault bytes.now ≡ None },
-    ghost short: { length bytes.now ≤ 0x10000000 },
+    ghost short: { length bytes.now ≤ FILE_LIMIT },
     ghost start_is: { start ≡ e_shoff bytes.now },
     ghost count_is: { count ≡ e_shnum bytes.now },
     ghost within: { start + 64 * count ≤ length bytes.now },
@@ -44,7 +27,7 @@ impl<'a> Headers<'a> {
     /// The section headers, or the fault of the file header.
     #[tactic(auto, unfolding(crate::specs::Sections::sh_type))]
     pub fn read(bytes: &'a [u8]) -> Result<Headers<'a>, ElfFault>
-        requires { length bytes.now ≤ 0x10000000 }
+        requires { length bytes.now ≤ FILE_LIMIT }
         ensures fault { Refuses result (header_fault bytes.now) }
         ensures bytes { IfOk result (λ h. h.bytes.now ≡ bytes.now) }
     {

@@ -3,6 +3,7 @@
 // file that isn't whole is refused with the first of its faults.
 #![tactic(auto)]
 
+pub mod constants;
 mod fault;
 mod headers;
 mod names;

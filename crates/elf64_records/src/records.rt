@@ -7,8 +7,8 @@ ghost use Rattle.elf64_records.specs.Sections.{is_rela, sh_offset};
 ghost use Rattle.elf64_records.specs.Records.{record_place};
 ghost use Rattle.elf64_records.specs.Faults.{first_section, rela_fault, records_fault, record_fault};
 
+use crate::constants::SHT_RELA;
 use crate::fault::{ElfFault, Place};
-use crate::headers::SHT_RELA;
 use crate::symbols::Symbols;
 use ppc_bytes::long_at;
 
@@ -55,7 +55,7 @@ fn check_record(symbols: &Symbols, i: u32, place: usize, k: u32) -> Result<(), E
     Ok(())
 }
 
-#[tactic(auto, using(crate::specs::Laws::walk_step, crate::specs::Laws::walk_end))]
+#[tactic(auto, using(crate::specs::laws::First::walk_step, crate::specs::laws::First::walk_end))]
 fn check_each(symbols: &Symbols, i: u32, start: usize, count: u32) -> Result<(), ElfFault>
     requires start { start ≡ sh_offset symbols.now.sections.headers.bytes.now i }
     requires within { start + 24 * count ≤ length symbols.now.sections.headers.bytes.now }
@@ -102,7 +102,7 @@ fn check_rela(symbols: &Symbols, i: u32) -> Result<(), ElfFault>
 }
 
 /// The first fault of the records of kept sections.
-#[tactic(auto, using(crate::specs::Laws::walk_step, crate::specs::Laws::walk_end))]
+#[tactic(auto, using(crate::specs::laws::First::walk_step, crate::specs::laws::First::walk_end))]
 pub fn check_relas(symbols: &Symbols) -> Result<(), ElfFault>
     ensures { let b = symbols.now.sections.headers.bytes.now in Refuses result (first_section b (rela_fault b)) }
 {

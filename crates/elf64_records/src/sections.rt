@@ -125,7 +125,7 @@ impl<'a> Sections<'a> {
     }
 
     /// Whether a section has this name. That of section 0 is empty.
-    #[tactic(auto, using(crate::specs::Whole::name_in_table))]
+    #[tactic(auto, using(crate::specs::laws::Whole::name_in_table))]
     pub fn is_named(&self, i: u32, name: &[u8]) -> bool
         requires { i < self.now.headers.count }
         ensures { result ≡ bytes_eq (section_of self.now.headers.bytes.now i).name name.now }
@@ -138,7 +138,7 @@ impl<'a> Sections<'a> {
     }
 
     /// The name of a section, which is empty for section 0.
-    #[tactic(auto, using(crate::specs::Whole::name_in_table))]
+    #[tactic(auto, using(crate::specs::laws::Whole::name_in_table))]
     fn name(&self, i: u32) -> &'a [u8]
         requires { i < self.now.headers.count }
         ensures { result.now ≡ (section_of self.now.headers.bytes.now i).name }
@@ -164,7 +164,7 @@ impl<'a> Sections<'a> {
 }
 
 /// Where a section's bytes begin, and how many there are, where those of each section lie in the file.
-#[tactic(auto, using(crate::specs::Whole::section_in_file))]
+#[tactic(auto, using(crate::specs::laws::Whole::section_in_file))]
 fn range_of(headers: &Headers, i: u32) -> (usize, usize)
     requires number { i < headers.now.count }
     requires ranges { first_section headers.now.bytes.now (range_fault headers.now.bytes.now) ≡ None }
@@ -204,7 +204,7 @@ fn check_range(headers: &Headers, i: u32) -> Result<(), ElfFault>
     Ok(())
 }
 
-#[tactic(auto, using(crate::specs::Laws::walk_step, crate::specs::Laws::walk_end))]
+#[tactic(auto, using(crate::specs::laws::First::walk_step, crate::specs::laws::First::walk_end))]
 fn check_ranges(headers: &Headers) -> Result<(), ElfFault>
     ensures { let b = headers.now.bytes.now in Refuses result (first_section b (range_fault b)) }
 {
@@ -227,7 +227,7 @@ fn check_name(headers: &Headers, end: usize, i: u32) -> Result<(), ElfFault>
     }
 }
 
-#[tactic(auto, using(crate::specs::Laws::walk_step, crate::specs::Laws::walk_end))]
+#[tactic(auto, using(crate::specs::laws::First::walk_step, crate::specs::laws::First::walk_end))]
 fn check_names(headers: &Headers, names: &[u8]) -> Result<(), ElfFault>
     requires { names.now ≡ section_names headers.now.bytes.now }
     ensures { let b = headers.now.bytes.now in Refuses result (first_section b (name_fault b)) }

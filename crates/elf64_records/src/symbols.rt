@@ -1,5 +1,5 @@
 // The symbol table.
-ghost use Rattle.std.specs.Prelude.{◌≡◌, ◌≢◌, ◌<◌, ◌≤◌, ◌+◌, ◌*◌, IfOk, IfSome, IsTrue, None, length};
+ghost use Rattle.std.specs.Prelude.{◌≡◌, ◌≢◌, ◌<◌, ◌≤◌, ◌+◌, ◌*◌, ◌/◌, ◌%◌, ◌==◌, nat_lt, if◌then◌else◌, IfOk, IfSome, IsTrue, Some, None, length};
 ghost use Rattle.std.specs.Str.{bytes_eq};
 ghost use Rattle.elf64_records.specs.First.{Refuses, first_from};
 ghost use Rattle.elf64_records.specs.Sections.{is_symbol_table, sh_offset, sh_link};
@@ -7,8 +7,12 @@ ghost use Rattle.elf64_records.specs.Names.{IsZeroEnd};
 ghost use Rattle.elf64_records.specs.Symbols.{symbol_table_at, symbol_table, symbol_count, symbol_place, symbol_names, symbol_of, st_name};
 ghost use Rattle.elf64_records.specs.Faults.{first_section, second_fault, symbol_table_fault, symbol_fault, symbols_fault};
 
+use crate::constants::{
+    SHN_ABS, SHN_COMMON, SHN_LORESERVE, SHN_UNDEF, SHT_STRTAB, SHT_SYMTAB, STB_GLOBAL, STB_LOCAL,
+    STB_WEAK,
+};
 use crate::fault::{ElfFault, Place};
-use crate::headers::{Headers, SHT_STRTAB, SHT_SYMTAB};
+use crate::headers::Headers;
 use crate::names::{is_named, name_from, zero_end};
 use crate::sections::Sections;
 use ppc_bytes::{half_at, long_at, word_at};
@@ -43,6 +47,75 @@ pub struct SymbolEntry {
     pub value: u64,
     /// The size in bytes (st_size).
     pub size: u64,
+}
+
+impl SymbolEntry {
+    /// The binding: the high four bits of st_info.
+    pub fn binding(self) -> u8
+        ensures { result ≡ self.info / 16 }
+    {
+        self.info >> 4
+    }
+
+    /// The type: the low four bits of st_info.
+    pub fn kind(self) -> u8
+        ensures { result ≡ self.info % 16 }
+    {
+        self.info & 0xF
+    }
+
+    /// Whether only the symbol's own file sees it.
+    pub fn is_local(self) -> bool
+        ensures { result ≡ (self.info / 16 == STB_LOCAL) }
+    {
+        self.binding() == STB_LOCAL
+    }
+
+    /// Whether all files see the symbol, and one of them may define it.
+    pub fn is_global(self) -> bool
+        ensures { result ≡ (self.info / 16 == STB_GLOBAL) }
+    {
+        self.binding() == STB_GLOBAL
+    }
+
+    /// Whether all files see the symbol, and each may define it.
+    pub fn is_weak(self) -> bool
+        ensures { result ≡ (self.info / 16 == STB_WEAK) }
+    {
+        self.binding() == STB_WEAK
+    }
+
+    /// Whether the file doesn't say what the symbol stands for.
+    pub fn is_undefined(self) -> bool
+        ensures { result ≡ (self.shndx == SHN_UNDEF) }
+    {
+        self.shndx == SHN_UNDEF
+    }
+
+    /// Whether the symbol is a number.
+    pub fn is_absolute(self) -> bool
+        ensures { result ≡ (self.shndx == SHN_ABS) }
+    {
+        self.shndx == SHN_ABS
+    }
+
+    /// Whether the symbol asks for room that it shares with the commons of its name.
+    pub fn is_common(self) -> bool
+        ensures { result ≡ (self.shndx == SHN_COMMON) }
+    {
+        self.shndx == SHN_COMMON
+    }
+
+    /// The section in which the symbol lies, where its index is a section's number.
+    pub fn section(self) -> Option<u32>
+        ensures { result ≡ (if nat_lt self.shndx SHN_LORESERVE then Some self.shndx else None) }
+    {
+        if self.shndx < SHN_LORESERVE {
+            Some(u32::from(self.shndx))
+        } else {
+            None
+        }
+    }
 }
 
 /// The symbols of a file, of which the names end. Where `table` is 0 the file has no symbol table.
@@ -135,7 +208,7 @@ impl<'a> Symbols<'a> {
     }
 
     /// Whether a symbol has this name.
-    #[tactic(auto, using(crate::specs::Whole::symbol_name_in_table))]
+    #[tactic(auto, using(crate::specs::laws::Whole::symbol_name_in_table))]
     pub fn is_named(&self, j: u32, name: &[u8]) -> bool
         requires { j < self.now.count }
         ensures { result ≡ bytes_eq (symbol_of self.now.sections.headers.bytes.now j).name name.now }
@@ -144,7 +217,7 @@ impl<'a> Symbols<'a> {
     }
 
     /// The name of a symbol.
-    #[tactic(auto, using(crate::specs::Whole::symbol_name_in_table))]
+    #[tactic(auto, using(crate::specs::laws::Whole::symbol_name_in_table))]
     fn name(&self, j: u32) -> &'a [u8]
         requires { j < self.now.count }
         ensures { result.now ≡ (symbol_of self.now.sections.headers.bytes.now j).name }
@@ -177,7 +250,7 @@ fn symbol_table_at(headers: &Headers, i: u32) -> Option<u32>
 }
 
 /// The number of the first symbol table, or 0 where there is none.
-#[tactic(auto, using(crate::specs::Laws::walk_step, crate::specs::Laws::walk_end))]
+#[tactic(auto, using(crate::specs::laws::First::walk_step, crate::specs::laws::First::walk_end))]
 fn symbol_table(headers: &Headers) -> u32
     ensures number { result ≡ symbol_table headers.now.bytes.now }
     ensures within { result < headers.now.count }
@@ -203,7 +276,7 @@ fn check_no_other(headers: &Headers, table: u32, i: u32) -> Result<(), ElfFault>
     Ok(())
 }
 
-#[tactic(auto, using(crate::specs::Laws::walk_step, crate::specs::Laws::walk_end))]
+#[tactic(auto, using(crate::specs::laws::First::walk_step, crate::specs::laws::First::walk_end))]
 fn check_second(headers: &Headers, table: u32) -> Result<(), ElfFault>
     requires { table ≡ symbol_table headers.now.bytes.now }
     ensures { Refuses result (first_section headers.now.bytes.now (second_fault headers.now.bytes.now)) }
@@ -244,7 +317,7 @@ fn check_name(bytes: &[u8], place: usize, end: usize, j: u32) -> Result<(), ElfF
     }
 }
 
-#[tactic(auto, using(crate::specs::Laws::walk_step, crate::specs::Laws::walk_end))]
+#[tactic(auto, using(crate::specs::laws::First::walk_step, crate::specs::laws::First::walk_end))]
 fn check_names(bytes: &[u8], start: usize, count: u32, names: &[u8]) -> Result<(), ElfFault>
     requires start { start ≡ sh_offset bytes.now (symbol_table bytes.now) }
     requires count { count ≡ symbol_count bytes.now }

@@ -8,8 +8,9 @@ ghost use Rattle.elf64_records.specs.Symbols.{symbol_count, symbol_of};
 ghost use Rattle.elf64_records.specs.Records.{record_count, rela_of};
 ghost use Rattle.elf64_records.specs.Faults.{object_fault};
 
+use crate::constants::{FILE_LIMIT, SHT_RELA};
 use crate::fault::ElfFault;
-use crate::headers::{Headers, SHT_RELA};
+use crate::headers::Headers;
 use crate::records::{Rela, check_relas, record_at};
 use crate::sections::{SectionHeader, SectionView, Sections};
 use crate::symbols::{SymbolEntry, SymbolView, Symbols};
@@ -36,7 +37,7 @@ impl<'a> Model for ObjectView<'a> {
 impl<'a> ObjectView<'a> {
     /// The view of a file's bytes, or the first fault of the file (ELF64, "ELF Header" to "Relocation").
     pub fn read(bytes: &'a [u8]) -> Result<ObjectView<'a>, ElfFault>
-        requires { length bytes.now ≤ 0x10000000 }
+        requires { length bytes.now ≤ FILE_LIMIT }
         ensures fault { Refuses result (object_fault bytes.now) }
         ensures view { IfOk result (λ view. view ≡ bytes.now) }
     {
@@ -134,7 +135,7 @@ impl<'a> ObjectView<'a> {
 
     /// The number of records in section `i`: 0 where it holds no relocation records with addends, or those of a section that
     /// isn't kept.
-    #[tactic(auto, using(crate::specs::Whole::target_in_range))]
+    #[tactic(auto, using(crate::specs::laws::Whole::target_in_range))]
     pub fn record_count(&self, i: u32) -> u32
         requires { i < e_shnum self.now }
         ensures { result ≡ record_count self.now i }
@@ -148,7 +149,7 @@ impl<'a> ObjectView<'a> {
     }
 
     /// Record `k` of section `i`.
-    #[tactic(auto, using(crate::specs::Whole::symbol_in_range), unfolding(crate::specs::Records::r_offset, crate::specs::Records::r_info, crate::specs::Records::r_type, crate::specs::Records::r_symbol, crate::specs::Records::r_addend))]
+    #[tactic(auto, using(crate::specs::laws::Whole::symbol_in_range), unfolding(crate::specs::Records::r_offset, crate::specs::Records::r_info, crate::specs::Records::r_type, crate::specs::Records::r_symbol, crate::specs::Records::r_addend))]
     pub fn rela(&self, i: u32, k: u32) -> Rela
         requires section { i < e_shnum self.now }
         requires record { k < record_count self.now i }

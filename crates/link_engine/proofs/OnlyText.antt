@@ -4,7 +4,7 @@ use Rattle.std.specs.Prelude.{slice_range}
 use Rattle.std.proofs.lemmas.Bool.Decides.{nat_tests}
 use Rattle.std.proofs.lemmas.List.{length-take}
 use Rattle.elf64_records.specs.First.{◌orelse◌, first_from}
-use Rattle.elf64_records.specs.Laws.{both_none, walk_none}
+use Rattle.elf64_records.specs.laws.First.{both_none, walk_none}
 use Rattle.elf64_records.specs.FileHeader.{e_shnum}
 use Rattle.elf64_records.specs.Sections.{sh_offset, sh_size, has_bytes, section_bytes}
 use Rattle.elf64_records.specs.Symbols.{symbol_count}
@@ -13,7 +13,7 @@ use Rattle.object_set.specs.declared.sort.Sort.TheVariants.{Text, Zeroed}
 use Rattle.object_set.specs.Files.{file_at}
 use Rattle.object_set.specs.Sections.{sort_of, is_kept_sort, is_text_sort, is_text}
 use Rattle.object_set.specs.Refusals.{length_refusal, fault_refusal, sections_refusal, symbols_refusal, file_refusal, set_refusal}
-use Rattle.object_set.specs.Laws.{file_fit, section_fit}
+use Rattle.object_set.specs.laws.Fit.{file_fit, section_fit}
 use Rattle.symbol_table.specs.declared.target.CodePlace.{CodePlace}
 use Rattle.symbol_table.specs.Text.{text_sections}
 use Rattle.symbol_table.specs.Claims.{duplicate_refusal}

@@ -9,11 +9,8 @@ ghost use Rattle.link_engine.specs.Stage.{first_kept_in, first_kept, needs_more,
 
 use object_set::{ObjectSet, Refusal, Sort};
 
-/// The section index of a common symbol.
-const SHN_COMMON: u16 = 0xFFF2;
-
 /// The first kept section of a file, with the file's number.
-#[tactic(auto, using(elf64_records::specs::Laws::walk_step, elf64_records::specs::Laws::walk_end), unfolding(crate::specs::Stage::kept_at, crate::specs::Stage::first_kept_in))]
+#[tactic(auto, using(elf64_records::specs::laws::First::walk_step, elf64_records::specs::laws::First::walk_end), unfolding(crate::specs::Stage::kept_at, crate::specs::Stage::first_kept_in))]
 fn first_kept_in(set: &ObjectSet, file: u32) -> Option<(u32, u32)>
     requires { file < length set.now }
     ensures { result ≡ first_kept_in set.now file }
@@ -30,7 +27,7 @@ fn first_kept_in(set: &ObjectSet, file: u32) -> Option<(u32, u32)>
 }
 
 /// The first kept section of all files: its file and number.
-#[tactic(auto, using(elf64_records::specs::Laws::walk_step, elf64_records::specs::Laws::walk_end))]
+#[tactic(auto, using(elf64_records::specs::laws::First::walk_step, elf64_records::specs::laws::First::walk_end))]
 fn first_kept(set: &ObjectSet) -> Option<(u32, u32)>
     ensures { result ≡ first_kept set.now }
 {
@@ -60,7 +57,7 @@ fn needs_more(set: &ObjectSet, first: Option<(u32, u32)>, file: u32, i: u32) -> 
 }
 
 /// Refuses a file of which a section can't be linked yet.
-#[tactic(auto, using(elf64_records::specs::Laws::walk_step, elf64_records::specs::Laws::walk_end), unfolding(crate::specs::Stage::section_not_built))]
+#[tactic(auto, using(elf64_records::specs::laws::First::walk_step, elf64_records::specs::laws::First::walk_end), unfolding(crate::specs::Stage::section_not_built))]
 fn check_sections(set: &ObjectSet, first: Option<(u32, u32)>, file: u32) -> Result<(), Refusal>
     requires { file < length set.now }
     ensures { let b = file_at set.now file in Refuses result (first_from (section_not_built first file b) 0 (e_shnum b)) }
@@ -80,11 +77,11 @@ fn is_common(set: &ObjectSet, file: u32, j: u32) -> bool
     requires within { j < symbol_count (file_at set.now file) }
     ensures { result ≡ is_common (file_at set.now file) j }
 {
-    set.view(file).symbol_entry(j).shndx == SHN_COMMON
+    set.view(file).symbol_entry(j).is_common()
 }
 
 /// Refuses a file of which a symbol is a common.
-#[tactic(auto, using(elf64_records::specs::Laws::walk_step, elf64_records::specs::Laws::walk_end), unfolding(crate::specs::Stage::symbol_not_built))]
+#[tactic(auto, using(elf64_records::specs::laws::First::walk_step, elf64_records::specs::laws::First::walk_end), unfolding(crate::specs::Stage::symbol_not_built))]
 fn check_symbols(set: &ObjectSet, file: u32) -> Result<(), Refusal>
     requires { file < length set.now }
     ensures { let b = file_at set.now file in Refuses result (first_from (symbol_not_built file b) 1 (symbol_count b - 1)) }
@@ -109,7 +106,7 @@ fn check_file(set: &ObjectSet, first: Option<(u32, u32)>, file: u32) -> Result<(
 }
 
 /// Refuses the first file that can't be linked yet.
-#[tactic(auto, using(elf64_records::specs::Laws::walk_step, elf64_records::specs::Laws::walk_end))]
+#[tactic(auto, using(elf64_records::specs::laws::First::walk_step, elf64_records::specs::laws::First::walk_end))]
 pub fn check_built(set: &ObjectSet) -> Result<(), Refusal>
     ensures { Refuses result (not_built set.now) }
 {

@@ -3,4 +3,4 @@ pub mod Sections
 pub mod Symbols
 pub mod Refusals
 pub mod Fit
-pub mod Laws
+pub mod laws

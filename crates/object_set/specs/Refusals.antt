@@ -1,6 +1,7 @@
 -- Why object files are refused, in the order in which it is said.
 use Rattle.std.specs.Prelude.{ℕ, ◌≡◌, ◌+◌, ◌-◌, ◌⊎◌, List, [], ◌∷◌, length, nat_lt, Option, None, Some, Result, Ok, Err}
 use Rattle.std.specs.Option.{option_map}
+use Rattle.elf64_records.specs.declared.constants.TheConstants.{FILE_LIMIT}
 use Rattle.elf64_records.specs.declared.fault.ElfFault.{ElfFault}
 use Rattle.elf64_records.specs.declared.fault.ElfFault.TheVariants as fault
 use Rattle.elf64_records.specs.First.{◌orelse◌, when, first_from}
@@ -21,9 +22,9 @@ refusal_of file fault.NotObject = NotObject file
 refusal_of file fault.BadAbi = BadAbi file
 refusal_of file (fault.BadTable place) = BadTable file place
 
--- a file may have 0x10000000 bytes
+-- the file has too many bytes
 abbrev pub length_refusal : ℕ → List ℕ → Option Refusal
-length_refusal file b = when (nat_lt 0x10000000 (length b)) (FileTooLong file)
+length_refusal file b = when (nat_lt FILE_LIMIT (length b)) (FileTooLong file)
 
 -- the file can't be read as an object file
 unfoldable pub fault_refusal : ℕ → List ℕ → Option Refusal

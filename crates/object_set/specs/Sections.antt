@@ -3,6 +3,8 @@
 use Rattle.std.specs.Prelude.{ℕ, ◌%◌, Bool, true, false, not, List, ◌||◌, ◌&&◌, ◌==◌, nat_le, bit_and, max, codes, Option, None, if◌then◌else◌}
 use Rattle.std.specs.Int.{is_power_of_two}
 use Rattle.std.specs.Str.{bytes_eq}
+use Rattle.elf64_records.specs.declared.constants.TheConstants.{SHF_WRITE, SHF_EXECINSTR, SHF_TLS, SHF_COMPRESSED, SHT_PROGBITS, SHT_NOTE, SHT_NOBITS, SHT_REL, SHT_INIT_ARRAY, SHT_FINI_ARRAY, SHT_GROUP, SHT_SYMTAB_SHNDX}
+use Rattle.object_set.specs.declared.sections.TheConstants.{ALIGN_LIMIT, TOC_ALIGN_LIMIT}
 use Rattle.elf64_records.specs.declared.fault.Place.TheVariants.{Section}
 use Rattle.elf64_records.specs.First.{◌orelse◌, when}
 use Rattle.elf64_records.specs.Sections.{sh_type, sh_flags, sh_size, sh_addralign, is_kept, section_of}
@@ -15,25 +17,20 @@ use Rattle.object_set.specs.declared.refusal.Refusal.TheVariants.{Unsupported, T
 abbrev pub has_flag : List ℕ → ℕ → ℕ → Bool
 has_flag b i flag = not (bit_and (sh_flags b i) flag == 0)
 
--- SHF_WRITE
 abbrev pub is_writable : List ℕ → ℕ → Bool
-is_writable b i = has_flag b i 0x1
+is_writable b i = has_flag b i SHF_WRITE
 
--- SHF_EXECINSTR
 abbrev pub is_executable : List ℕ → ℕ → Bool
-is_executable b i = has_flag b i 0x4
+is_executable b i = has_flag b i SHF_EXECINSTR
 
--- SHF_TLS
 abbrev pub is_thread_local : List ℕ → ℕ → Bool
-is_thread_local b i = has_flag b i 0x400
+is_thread_local b i = has_flag b i SHF_TLS
 
--- SHF_COMPRESSED
 abbrev pub is_compressed : List ℕ → ℕ → Bool
-is_compressed b i = has_flag b i 0x800
+is_compressed b i = has_flag b i SHF_COMPRESSED
 
--- SHT_NOBITS
 abbrev pub is_nobits : List ℕ → ℕ → Bool
-is_nobits b i = sh_type b i == 8
+is_nobits b i = sh_type b i == SHT_NOBITS
 
 -- the section's name is `.toc`
 abbrev pub is_named_toc : List ℕ → ℕ → Bool
@@ -79,13 +76,15 @@ align_of b i = max (if is_text b i then 4 else 1) (sh_addralign b i)
 abbrev pub is_power_up_to : ℕ → ℕ → Bool
 is_power_up_to limit a = is_power_of_two a && nat_le a limit
 
--- SHT_REL, SHT_GROUP or SHT_SYMTAB_SHNDX, which this linker leaves out
+-- a type that this linker leaves out
 abbrev pub has_left_out_type : List ℕ → ℕ → Bool
-has_left_out_type b i = sh_type b i == 9 || sh_type b i == 17 || sh_type b i == 18
+has_left_out_type b i =
+    sh_type b i == SHT_REL || sh_type b i == SHT_GROUP || sh_type b i == SHT_SYMTAB_SHNDX
 
--- SHT_PROGBITS, SHT_NOTE, SHT_NOBITS, SHT_INIT_ARRAY or SHT_FINI_ARRAY
+-- a type that a kept section may have
 abbrev pub is_kept_type : ℕ → Bool
-is_kept_type kind = kind == 1 || kind == 7 || kind == 8 || kind == 14 || kind == 15
+is_kept_type kind =
+    kind == SHT_PROGBITS || kind == SHT_NOTE || kind == SHT_NOBITS || kind == SHT_INIT_ARRAY || kind == SHT_FINI_ARRAY
 
 -- instructions that may be written, that aren't in the file, or that aren't whole
 abbrev pub is_unfit_text : List ℕ → ℕ → Bool
@@ -93,11 +92,12 @@ is_unfit_text b i = is_executable b i && (is_writable b i || is_nobits b i || no
 
 -- a part of the table of contents that is instructions, or isn't in the file
 abbrev pub is_unfit_toc : List ℕ → ℕ → Bool
-is_unfit_toc b i = is_named_toc b i && (is_executable b i || not (sh_type b i == 1))
+is_unfit_toc b i = is_named_toc b i && (is_executable b i || not (sh_type b i == SHT_PROGBITS))
 
 -- the alignment is 0, or a power of two up to 0x10000, in `.toc` up to 0x100
 abbrev pub has_fit_align : List ℕ → ℕ → Bool
-has_fit_align b i = sh_addralign b i == 0 || is_power_up_to (if is_named_toc b i then 0x100 else 0x10000) (sh_addralign b i)
+has_fit_align b i =
+    sh_addralign b i == 0 || is_power_up_to (if is_named_toc b i then TOC_ALIGN_LIMIT else ALIGN_LIMIT) (sh_addralign b i)
 
 -- why a kept section, number i of a file, is refused
 unfoldable pub kept_refusal : ℕ → List ℕ → ℕ → Option Refusal

@@ -1,7 +1,9 @@
 -- The symbols of an object file, as a link reads them, and what it can't take (ELF64, "Symbol Table"; ELFv2 ABI, 3.4.1 "Symbol
 -- Values"). Symbol 0 counts as local, undefined and without a name, whatever its entry says.
-use Rattle.std.specs.Prelude.{ℕ, ◌+◌, ◌*◌, ◌/◌, ◌%◌, ◌^◌, Bool, not, List, [], ◌||◌, ◌&&◌, ◌==◌, nat_lt, codes, Option, if◌then◌else◌}
+use Rattle.std.specs.Prelude.{ℕ, ◌+◌, ◌*◌, ◌/◌, ◌%◌, ◌^◌, Bool, not, List, [], ◌||◌, ◌&&◌, ◌==◌, nat_lt, codes, Option, Some, None, if◌then◌else◌}
 use Rattle.std.specs.Str.{bytes_eq}
+use Rattle.elf64_records.specs.declared.constants.TheConstants.{SHN_UNDEF, SHN_LORESERVE, SHN_ABS, SHN_COMMON, SHN_XINDEX, STB_LOCAL, STB_GLOBAL, STB_WEAK, STB_GNU_UNIQUE, STT_TLS, STT_GNU_IFUNC}
+use Rattle.object_set.specs.declared.sections.TheConstants.{ALIGN_LIMIT}
 use Rattle.elf64_records.specs.declared.fault.Place.TheVariants.{Symbol}
 use Rattle.elf64_records.specs.First.{◌orelse◌, when}
 use Rattle.elf64_records.specs.FileHeader.{e_shnum}
@@ -17,19 +19,16 @@ name_of b j = if j == 0 then [] else (symbol_of b j).name
 
 -- the binding: the high four bits of st_info
 abbrev pub binding : List ℕ → ℕ → ℕ
-binding b j = if j == 0 then 0 else st_info b j / 16
+binding b j = if j == 0 then STB_LOCAL else st_info b j / 16
 
--- STB_LOCAL
 abbrev pub is_local : List ℕ → ℕ → Bool
-is_local b j = binding b j == 0
+is_local b j = binding b j == STB_LOCAL
 
--- STB_GLOBAL
 abbrev pub is_global : List ℕ → ℕ → Bool
-is_global b j = binding b j == 1
+is_global b j = binding b j == STB_GLOBAL
 
--- STB_WEAK
 abbrev pub is_weak : List ℕ → ℕ → Bool
-is_weak b j = binding b j == 2
+is_weak b j = binding b j == STB_WEAK
 
 -- the type: the low four bits of st_info
 abbrev pub symbol_type : List ℕ → ℕ → ℕ
@@ -37,23 +36,24 @@ symbol_type b j = if j == 0 then 0 else st_info b j % 16
 
 -- the section in which the symbol lies, or a special index
 abbrev pub index_of : List ℕ → ℕ → ℕ
-index_of b j = if j == 0 then 0 else st_shndx b j
+index_of b j = if j == 0 then SHN_UNDEF else st_shndx b j
 
--- SHN_UNDEF
 abbrev pub is_undefined : List ℕ → ℕ → Bool
-is_undefined b j = index_of b j == 0
+is_undefined b j = index_of b j == SHN_UNDEF
 
--- SHN_ABS
 abbrev pub is_absolute : List ℕ → ℕ → Bool
-is_absolute b j = index_of b j == 0xFFF1
+is_absolute b j = index_of b j == SHN_ABS
 
--- SHN_COMMON
 abbrev pub is_common : List ℕ → ℕ → Bool
-is_common b j = index_of b j == 0xFFF2
+is_common b j = index_of b j == SHN_COMMON
 
--- the index is a section's number: below SHN_LORESERVE
+-- the index is a section's number
 abbrev pub has_section : List ℕ → ℕ → Bool
-has_section b j = nat_lt (index_of b j) 0xFF00
+has_section b j = nat_lt (index_of b j) SHN_LORESERVE
+
+-- the section of symbol j, where its index is a section's number
+abbrev pub section_index : List ℕ → ℕ → Option ℕ
+section_index b j = if has_section b j then Some (index_of b j) else None
 
 -- symbol j lies in a kept section
 abbrev pub lies_in_kept : List ℕ → ℕ → Bool
@@ -77,11 +77,12 @@ local_entry e = 2 ^ e / 4 * 4
 
 -- a binding is one of the three that are known
 abbrev pub is_known_binding : ℕ → Bool
-is_known_binding binding = binding == 0 || binding == 1 || binding == 2
+is_known_binding binding = binding == STB_LOCAL || binding == STB_GLOBAL || binding == STB_WEAK
 
--- an index is one of so many sections, SHN_ABS or SHN_COMMON
+-- an index is one of so many sections, or means an absolute or a common symbol
 abbrev pub is_known_index : ℕ → ℕ → Bool
-is_known_index sections index = (nat_lt index 0xFF00 && nat_lt index sections) || index == 0xFFF1 || index == 0xFFF2
+is_known_index sections index =
+    (nat_lt index SHN_LORESERVE && nat_lt index sections) || index == SHN_ABS || index == SHN_COMMON
 
 -- no file defines `.TOC.`, and what is common has a name for other files
 abbrev pub is_unfit_symbol : List ℕ → ℕ → Bool
@@ -90,17 +91,18 @@ is_unfit_symbol b j =
     || (is_toc_base b j && not (is_undefined b j))
     || (is_local b j && is_common b j)
 
--- what a link leaves out: STT_GNU_IFUNC, STB_GNU_UNIQUE and SHN_XINDEX
+-- what a link leaves out
 abbrev pub is_left_out_symbol : List ℕ → ℕ → Bool
-is_left_out_symbol b j = symbol_type b j == 10 || binding b j == 10 || index_of b j == 0xFFFF
+is_left_out_symbol b j =
+    symbol_type b j == STT_GNU_IFUNC || binding b j == STB_GNU_UNIQUE || index_of b j == SHN_XINDEX
 
--- why symbol j of a file is refused: STT_TLS, and what is left out or unfit; the value of a common symbol is its alignment
+-- why symbol j of a file is refused: thread-local storage, and what is left out or unfit; the value of a common symbol is its alignment
 unfoldable pub symbol_refusal : ℕ → List ℕ → ℕ → Option Refusal
 symbol_refusal file b j =
-    when (symbol_type b j == 6) (Tls file (Symbol j))
+    when (symbol_type b j == STT_TLS) (Tls file (Symbol j))
     orelse when (is_left_out_symbol b j) (Unsupported file (Symbol j))
     orelse when (is_unfit_symbol b j) (BadSymbol file j)
-    orelse when (is_common b j && not (is_power_up_to 0x10000 (st_value b j))) (BadAlign file (Symbol j))
+    orelse when (is_common b j && not (is_power_up_to ALIGN_LIMIT (st_value b j))) (BadAlign file (Symbol j))
 
 -- the entry points of a symbol at an offset of a text section of some size: there is one for 0 and 1; for 2 to 6 there are two, of
 -- which the global one is an instruction's place and the local one lies in the section; 7 is reserved

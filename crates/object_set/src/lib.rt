@@ -8,6 +8,7 @@ mod refusal;
 mod sections;
 mod set;
 mod sort;
+mod symbol_readers;
 mod symbols;
 
 pub use files::FileBytes;

@@ -7,41 +7,16 @@ ghost use Rattle.object_set.specs.Sections.{kept_refusal, section_refusal, is_ke
 ghost use Rattle.object_set.specs.Refusals.{sections_refusal};
 
 use crate::refusal::Refusal;
+use elf64_records::constants::{
+    SHF_ALLOC, SHF_COMPRESSED, SHF_EXECINSTR, SHF_TLS, SHF_WRITE, SHT_FINI_ARRAY, SHT_GROUP,
+    SHT_INIT_ARRAY, SHT_NOBITS, SHT_NOTE, SHT_PROGBITS, SHT_REL, SHT_SYMTAB_SHNDX, TOC_SECTION,
+};
 use elf64_records::{ObjectView, Place};
 
-pub const SHF_WRITE: u64 = 0x1;
-
-pub const SHF_ALLOC: u64 = 0x2;
-
-pub const SHF_EXECINSTR: u64 = 0x4;
-
-pub const SHF_TLS: u64 = 0x400;
-
-pub const SHF_COMPRESSED: u64 = 0x800;
-
-pub const SHT_PROGBITS: u32 = 1;
-
-pub const SHT_NOTE: u32 = 7;
-
-pub const SHT_NOBITS: u32 = 8;
-
-pub const SHT_REL: u32 = 9;
-
-pub const SHT_INIT_ARRAY: u32 = 14;
-
-pub const SHT_FINI_ARRAY: u32 = 15;
-
-pub const SHT_GROUP: u32 = 17;
-
-pub const SHT_SYMTAB_SHNDX: u32 = 18;
-
-/// The name of the sections that are parts of the table of contents.
-pub const TOC: &[u8] = b".toc";
-
-/// The largest alignment, and that in the table of contents.
+/// The largest alignment of a section or a common, and that of a part of the table of contents.
 pub const ALIGN_LIMIT: u64 = 0x1_0000;
 
-const TOC_ALIGN_LIMIT: u64 = 0x100;
+pub const TOC_ALIGN_LIMIT: u64 = 0x100;
 
 /// Whether an alignment is a power of two up to a limit.
 pub fn is_power_up_to(limit: u64, align: u64) -> bool
@@ -68,7 +43,7 @@ fn check_kept(file: u32, view: &ObjectView, i: u32) -> Result<(), Refusal>
     if text && (written || header.kind == SHT_NOBITS || header.size % 4 != 0) {
         return Err(Refusal::BadSection(file, i));
     }
-    let toc = view.section_is_named(i, TOC);
+    let toc = view.section_is_named(i, TOC_SECTION);
     if toc && (text || header.kind != SHT_PROGBITS) {
         return Err(Refusal::BadSection(file, i));
     }
@@ -109,7 +84,7 @@ fn check_section(file: u32, view: &ObjectView, i: u32) -> Result<(), Refusal>
 }
 
 /// Refuses the sections of a file, from section 1 on, with the first of their faults.
-#[tactic(auto, using(elf64_records::specs::Laws::walk_step))]
+#[tactic(auto, using(elf64_records::specs::laws::First::walk_step))]
 pub fn check_sections(file: u32, view: &ObjectView) -> Result<(), Refusal>
     ensures { Refuses result (sections_refusal file view.now) }
 {

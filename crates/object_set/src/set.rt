@@ -1,5 +1,6 @@
 // A set of object files.
 ghost use Rattle.std.specs.Prelude.{◌≡◌, ◌<◌, ◌≤◌, IfOk, None, length};
+ghost use Rattle.elf64_records.specs.declared.constants.TheConstants.{FILE_LIMIT};
 ghost use Rattle.elf64_records.specs.First.{Refuses};
 ghost use Rattle.elf64_records.specs.FileHeader.{e_shnum};
 ghost use Rattle.object_set.specs.Files.{contents_of, file_at};
@@ -11,12 +12,10 @@ use crate::refusal::Refusal;
 use crate::sections::check_sections;
 use crate::sort::{Sort, sort_of};
 use crate::symbols::check_symbols;
+use elf64_records::constants::FILE_LIMIT;
 use elf64_records::{ElfFault, ObjectView};
 use std::alloc::Global;
 use std::marker::Model;
-
-/// How many bytes a file may have.
-const FILE_LIMIT: usize = 0x1000_0000;
 
 /// At most 4096 object files of which none is refused. Contracts see it as the list of the files' bytes. It borrows these bytes.
 #[derive(Drop)]
@@ -52,7 +51,7 @@ pub fn refusal_of(file: u32, fault: ElfFault) -> Refusal
 /// The view of a file's bytes, or the file's refusal.
 #[tactic(auto, unfolding(crate::specs::Refusals::fault_refusal))]
 fn read<'a>(file: u32, bytes: &'a [u8]) -> Result<ObjectView<'a>, Refusal>
-    requires { length bytes.now ≤ 0x10000000 }
+    requires { length bytes.now ≤ FILE_LIMIT }
     ensures refusal { Refuses result (fault_refusal file bytes.now) }
     ensures view { IfOk result (λ view. view ≡ bytes.now) }
 {
@@ -117,15 +116,17 @@ impl<'a> ObjectSet<'a> {
     {
         sort_of(self.view(file), section)
     }
+
     /// The alignment of a section of a file in bytes, at least 1, and at least 4 for text.
     pub fn align_of(&self, file: u32, section: u32) -> u64
         requires file { file < length self.now }
         requires section { section < e_shnum (file_at self.now file) }
         ensures { result ≡ align_of (file_at self.now file) section }
     {
-        let least = match self.sort_of(file, section) {
-            Sort::Text => 4,
-            _ => 1,
+        let least = if self.sort_of(file, section).is_text() {
+            4
+        } else {
+            1
         };
         self.view(file).section_header(section).align.max(least)
     }

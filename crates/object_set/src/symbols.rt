@@ -9,32 +9,11 @@ ghost use Rattle.object_set.specs.Refusals.{symbols_refusal};
 use crate::refusal::Refusal;
 use crate::sections::{ALIGN_LIMIT, is_power_up_to};
 use crate::sort::{Sort, sort_of};
+use elf64_records::constants::{
+    SHN_ABS, SHN_COMMON, SHN_LORESERVE, SHN_XINDEX, STB_GLOBAL, STB_GNU_UNIQUE, STB_LOCAL,
+    STB_WEAK, STT_GNU_IFUNC, STT_TLS, TOC_BASE,
+};
 use elf64_records::{ObjectView, Place};
-
-const STB_LOCAL: u8 = 0;
-
-const STB_GLOBAL: u8 = 1;
-
-const STB_WEAK: u8 = 2;
-
-const STB_GNU_UNIQUE: u8 = 10;
-
-const STT_TLS: u8 = 6;
-
-const STT_GNU_IFUNC: u8 = 10;
-
-const SHN_UNDEF: u16 = 0;
-
-const SHN_LORESERVE: u16 = 0xFF00;
-
-const SHN_ABS: u16 = 0xFFF1;
-
-const SHN_COMMON: u16 = 0xFFF2;
-
-const SHN_XINDEX: u16 = 0xFFFF;
-
-/// The name of the base of the table of contents.
-const TOC_BASE: &[u8] = b".TOC.";
 
 /// Refuses symbol `j`, by itself, with the first of its faults.
 #[tactic(auto, unfolding(crate::specs::Symbols::symbol_refusal))]
@@ -44,7 +23,7 @@ fn check_symbol(file: u32, view: &ObjectView, j: u32) -> Result<(), Refusal>
     ensures { Refuses result (symbol_refusal file view.now j) }
 {
     let symbol = view.symbol_entry(j);
-    let (binding, kind) = (symbol.info >> 4, symbol.info & 0xF);
+    let (binding, kind) = (symbol.binding(), symbol.kind());
     if kind == STT_TLS {
         return Err(Refusal::Tls(file, Place::Symbol(j)));
     }
@@ -54,9 +33,9 @@ fn check_symbol(file: u32, view: &ObjectView, j: u32) -> Result<(), Refusal>
     if !has_known_binding(binding) || !has_known_index(view, symbol.shndx) {
         return Err(Refusal::BadSymbol(file, j));
     }
-    let common = symbol.shndx == SHN_COMMON;
+    let common = symbol.is_common();
     let toc_base = view.symbol_is_named(j, TOC_BASE);
-    if (toc_base && symbol.shndx != SHN_UNDEF) || (binding == STB_LOCAL && common) {
+    if (toc_base && !symbol.is_undefined()) || (symbol.is_local() && common) {
         return Err(Refusal::BadSymbol(file, j));
     }
     if common && !is_power_up_to(ALIGN_LIMIT, symbol.value) {
@@ -104,7 +83,7 @@ fn has_entries(entry_points: u8, offset: u64, size: u64) -> bool
 }
 
 /// Refuses symbol `j` where it lies in a kept section and not as it should.
-#[tactic(auto, using(crate::specs::Laws::index_in_range), unfolding(crate::specs::Symbols::value_refusal))]
+#[tactic(auto, using(crate::specs::laws::Fit::index_in_range), unfolding(crate::specs::Symbols::value_refusal))]
 fn check_value(file: u32, view: &ObjectView, j: u32) -> Result<(), Refusal>
     requires some { 0 < j }
     requires within { j < symbol_count view.now }
@@ -130,7 +109,7 @@ fn check_value(file: u32, view: &ObjectView, j: u32) -> Result<(), Refusal>
 }
 
 /// Refuses the symbols of a file, from symbol 1 on, with the first of their own faults.
-#[tactic(auto, using(elf64_records::specs::Laws::walk_step))]
+#[tactic(auto, using(elf64_records::specs::laws::First::walk_step))]
 fn check_each(file: u32, view: &ObjectView) -> Result<(), Refusal>
     ensures { Refuses result (first_from (symbol_refusal file view.now) 1 (symbol_count view.now - 1)) }
 {
@@ -141,7 +120,7 @@ fn check_each(file: u32, view: &ObjectView) -> Result<(), Refusal>
 }
 
 /// Refuses the symbols of a file, of which each is fit by itself, with the first that doesn't lie in its section as it should.
-#[tactic(auto, using(elf64_records::specs::Laws::walk_step, elf64_records::specs::Laws::walk_none))]
+#[tactic(auto, using(elf64_records::specs::laws::First::walk_step, elf64_records::specs::laws::First::walk_none))]
 fn check_values(file: u32, view: &ObjectView) -> Result<(), Refusal>
     requires { first_from (symbol_refusal file view.now) 1 (symbol_count view.now - 1) ≡ None }
     ensures { Refuses result (first_from (value_refusal file view.now) 1 (symbol_count view.now - 1)) }

@@ -1,4 +1,4 @@
 pub mod Bytes
 pub mod Elf
 pub mod Halves
-pub mod Laws
+pub mod laws

@@ -4,6 +4,7 @@
 
 mod align;
 mod bytes;
+mod halves;
 mod ident;
 mod laws;
 mod memory;
@@ -12,6 +13,7 @@ mod steps;
 
 pub use align::{align_up, fits_signed};
 pub use bytes::Bytes;
+pub use halves::{d0, d1, ha, hi, lo, low_bits};
 pub use ident::{has_magic, is_ppc64_le};
 pub use laws::{put_keeps_others, put_then_read};
 pub use memory::Memory;

@@ -1,5 +1,6 @@
 -- What was fetched, and why a fetch failed.
 use Rattle.std.specs.Prelude.{ℕ, ◌≡◌, ◌<◌, ◌≤◌, ◌⊎◌, ◌+◌, List, [], ◌∷◌, take, length, Option, Some, None, slice_index_or}
+use Rattle.elf64_records.specs.declared.constants.TheConstants.{FILE_LIMIT}
 use Rattle.ppc_outside.specs.Outside.{Files, Holds, Lacks, last_count}
 use Rattle.ppc_outside.specs.declared.outside.OutsideError.{OutsideError}
 use Rattle.ppc_outside.specs.declared.outside.OutsideError.TheVariants as outside
@@ -9,7 +10,7 @@ use Rattle.ppclink.specs.Outcomes.{first_missing}
 
 -- the most bytes that an object file may have
 abbrev pub file_limit : ℕ
-file_limit = 0x10000000
+file_limit = FILE_LIMIT
 
 -- where the store tells it, the name holds bytes that begin so; one byte past the limit was asked for
 abbrev pub HasRead : Option Files → ℕ → List ℕ → List ℕ → Type 0

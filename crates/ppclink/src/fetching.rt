@@ -4,12 +4,10 @@ ghost use Rattle.object_set.specs.Files.{contents_of};
 ghost use Rattle.ppclink.specs.Requests.{texts};
 ghost use Rattle.ppclink.specs.Fetching.{HasRead, HaveRead, OneCause, ManyCause, file_limit};
 
+use elf64_records::constants::FILE_LIMIT;
 use link_engine::FileBytes;
 use ppc_outside::{OutsideError, Store};
 use std::alloc::Global;
-
-/// How many bytes an object file may have.
-pub const FILE_LIMIT: usize = 0x1000_0000;
 
 /// Why files weren't fetched.
 #[derive(Clone, Copy, Debug)]

@@ -8,12 +8,13 @@ ghost use Rattle.object_set.specs.Files.{contents_of};
 ghost use Rattle.link_engine.specs.Options.{InRange};
 
 use crate::answer::{Answer, printed};
-use crate::fetching::{FILE_LIMIT, Unfetched, fetch_files, only};
+use crate::fetching::{Unfetched, fetch_files, only};
 use crate::lines::{refusal_line, unread_line, usage_line};
 use crate::running::perform_run;
 use crate::show::shown;
 use crate::words::{Command, parse};
 use elf64_records::ObjectView;
+use elf64_records::constants::FILE_LIMIT;
 use link_engine::{FileBytes, Options, Refusal, Steps, link};
 use object_set::refusal_of;
 use ppc_bytes::Memory;

@@ -5,7 +5,8 @@ use Rattle.std.proofs.lemmas.Bool.{cases_lt}
 use Rattle.std.proofs.lemmas.Nat.{div-add-mod', mod_below, pow_pos}
 use Rattle.std.proofs.lemmas.Nat.Bits.{bit_at_above, bit_at_cat_low, bit_at_cat_high, bit_at_mask_inside, bit_at_mask_below, bit_at_mask_above, same_from_bits, same_from_bits_below}
 use Rattle.std.specs.Int.{bit_at}
-use Rattle.ppc_bytes.specs.Halves.{low_of, lo, hi, ha, d0, d1, low_of-lt}
+use Rattle.ppc_bytes.specs.Halves.{low_of, lo, hi, ha, d0, d1}
+use Rattle.ppc_bytes.specs.laws.Halves.{low_of-lt}
 use Rattle.reloc_fields.specs.Bits.{Fills}
 use Rattle.reloc_fields.specs.Table.{Filling, field, mask}
 use Rattle.reloc_fields.specs.Table.Filling.{nothing, word_32, long_64, low_half, high_half, adjusted_half, low_half_ds, low_14, low_24, prefix_34}

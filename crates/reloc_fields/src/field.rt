@@ -5,6 +5,7 @@ ghost use Rattle.reloc_fields.specs.Bits.{Fills};
 ghost use Rattle.reloc_fields.specs.Table.{field, line_of, mask, Passes};
 
 use crate::kind::Kind;
+use ppc_bytes::{d0, d1, ha, hi, low_bits};
 
 /// The field with the value `v` in it. `old` is the field's bytes as a little-endian number, so that of a prefixed
 /// instruction the prefix is the low half. Bits that aren't the kind's keep their value (ELFv2 ABI, 3.5.1 "Relocation
@@ -24,12 +25,8 @@ pub fn fill(kind: Kind, old: u64, v: i128) -> u64
             old,
             low_bits(v, 16),
         ),
-        Kind::Addr16Hi | Kind::Toc16Hi => merged(0xFFFF, old, high_half(v)),
-        Kind::Addr16Ha | Kind::Toc16Ha | Kind::Rel16Ha => merged(
-            0xFFFF,
-            old,
-            high_half(v + 0x8000),
-        ),
+        Kind::Addr16Hi | Kind::Toc16Hi => merged(0xFFFF, old, u64::from(hi(v))),
+        Kind::Addr16Ha | Kind::Toc16Ha | Kind::Rel16Ha => merged(0xFFFF, old, u64::from(ha(v))),
         Kind::Rel24 | Kind::Rel24Notoc => merged(0x03FF_FFFC, old, low_bits(v, 26)),
         Kind::Rel14 => merged(0xFFFC, old, low_bits(v, 16)),
         Kind::Addr16Ds | Kind::Addr16LoDs | Kind::Toc16Ds | Kind::Toc16LoDs => merged(
@@ -49,25 +46,9 @@ fn merged(mask: u64, old: u64, field: u64) -> u64
     (old & !mask) | (field & mask)
 }
 
-// The lowest bits of a number in two's complement.
-fn low_bits(v: i128, bits: u32) -> u64
-    requires { bits ≤ 64 }
-    ensures { result ≡ low_of bits v }
-{
-    v.rem_euclid(1 << bits) as u64
-}
-
-// Bits 16 to 31.
-fn high_half(v: i128) -> u64
-    ensures { result ≡ hi v }
-{
-    low_bits(v, 32) >> 16
-}
-
 // The two parts of a displacement, the prefix's in the low word and the suffix's in the high one.
 fn split_34(v: i128) -> u64
     ensures { result ≡ d1 v * 2 ^ 32 + d0 v }
 {
-    let bits = low_bits(v, 34);
-    ((bits & 0xFFFF) << 32) + (bits >> 16)
+    (u64::from(d1(v)) << 32) + u64::from(d0(v))
 }

@@ -5,6 +5,7 @@ ghost use Rattle.ppc_bytes.specs.Halves.{low_of, lo, ha, d0, d1};
 ghost use Rattle.stub_kinds.specs.Stubs.{addi_r12_r12, addi_r2_r2, addis_r12_r2, addis_r2_r2, bctr, branch, by_distance, by_toc, eight, mtctr_r12, std_r2, words_of, BranchReaches};
 
 use crate::class::Class;
+use ppc_bytes::{d0, d1, ha, lo, low_bits};
 
 const NOP: u32 = 0x6000_0000;
 
@@ -52,22 +53,22 @@ pub fn stub_words(class: Class, far: bool, at: u64, to: u64, base: u64, to_base:
 }
 
 // How far one address is past another.
-fn difference(to: u64, from: u64) -> i64
+fn difference(to: u64, from: u64) -> i128
     requires to_low { to < 0x60000010 }
     requires from_low { from < 0x60000010 }
     ensures { result ≡ pos to -ℤ pos from }
 {
-    to as i64 - from as i64
+    to as i128 - from as i128
 }
 
 // To the place `x` past r2.
-fn jump_by_toc(x: i64) -> [u32; 8]
+fn jump_by_toc(x: i128) -> [u32; 8]
     requires { InSigned 32 x }
     ensures { result ≡ eight (by_toc x) }
 {
     [
-        ADDIS_R12_R2 + adjusted_half(x),
-        ADDI_R12_R12 + low_half(x),
+        ADDIS_R12_R2 + ha(x),
+        ADDI_R12_R12 + lo(x),
         MTCTR_R12,
         BCTR,
         NOP,
@@ -78,14 +79,14 @@ fn jump_by_toc(x: i64) -> [u32; 8]
 }
 
 // The same with r2 saved first.
-fn save_by_toc(x: i64) -> [u32; 8]
+fn save_by_toc(x: i128) -> [u32; 8]
     requires { InSigned 32 x }
     ensures { result ≡ eight (std_r2 ∷ by_toc x) }
 {
     [
         STD_R2,
-        ADDIS_R12_R2 + adjusted_half(x),
-        ADDI_R12_R12 + low_half(x),
+        ADDIS_R12_R2 + ha(x),
+        ADDI_R12_R12 + lo(x),
         MTCTR_R12,
         BCTR,
         NOP,
@@ -95,14 +96,13 @@ fn save_by_toc(x: i64) -> [u32; 8]
 }
 
 // To the place `x` past the stub.
-fn jump_by_distance(x: i64) -> [u32; 8]
+fn jump_by_distance(x: i128) -> [u32; 8]
     requires { InSigned 32 x }
     ensures { result ≡ eight (by_distance x) }
 {
-    let bits = x.rem_euclid(1 << 34);
     [
-        PADDI_PREFIX + (bits >> 16) as u32,
-        PADDI_R12 + (bits & 0xFFFF) as u32,
+        PADDI_PREFIX + d0(x),
+        PADDI_R12 + d1(x),
         MTCTR_R12,
         BCTR,
         NOP,
@@ -113,15 +113,15 @@ fn jump_by_distance(x: i64) -> [u32; 8]
 }
 
 // r2 is saved and moved by `d`, and a branch goes on.
-fn switch_near(d: i64, displacement: i64) -> [u32; 8]
+fn switch_near(d: i128, displacement: i128) -> [u32; 8]
     requires moved { InSigned 32 d }
     requires reaches { InSigned 26 displacement }
     ensures { result ≡ eight (std_r2 ∷ (addis_r2_r2 + ha d) ∷ (addi_r2_r2 + lo d) ∷ branch displacement ∷ []) }
 {
     [
         STD_R2,
-        ADDIS_R2_R2 + adjusted_half(d),
-        ADDI_R2_R2 + low_half(d),
+        ADDIS_R2_R2 + ha(d),
+        ADDI_R2_R2 + lo(d),
         branch(displacement),
         NOP,
         NOP,
@@ -131,7 +131,7 @@ fn switch_near(d: i64, displacement: i64) -> [u32; 8]
 }
 
 // r2 is saved, r12 gets the address `x` past r2, r2 is moved by `d`, and a jump goes to r12.
-fn switch_far(x: i64, d: i64) -> [u32; 8]
+fn switch_far(x: i128, d: i128) -> [u32; 8]
     requires place { InSigned 32 x }
     requires moved { InSigned 32 d }
     ensures { result ≡ eight (std_r2 ∷ (addis_r12_r2 + ha x) ∷ (addi_r12_r12 + lo x) ∷ mtctr_r12
@@ -139,18 +139,18 @@ fn switch_far(x: i64, d: i64) -> [u32; 8]
 {
     [
         STD_R2,
-        ADDIS_R12_R2 + adjusted_half(x),
-        ADDI_R12_R12 + low_half(x),
+        ADDIS_R12_R2 + ha(x),
+        ADDI_R12_R12 + lo(x),
         MTCTR_R12,
-        ADDIS_R2_R2 + adjusted_half(d),
-        ADDI_R2_R2 + low_half(d),
+        ADDIS_R2_R2 + ha(d),
+        ADDI_R2_R2 + lo(d),
         BCTR,
         NOP,
     ]
 }
 
 // r2 is saved, and a branch goes on.
-fn save_near(displacement: i64) -> [u32; 8]
+fn save_near(displacement: i128) -> [u32; 8]
     requires { InSigned 26 displacement }
     ensures { result ≡ eight (std_r2 ∷ branch displacement ∷ []) }
 {
@@ -158,25 +158,8 @@ fn save_near(displacement: i64) -> [u32; 8]
 }
 
 // A branch by a displacement.
-fn branch(displacement: i64) -> u32
+fn branch(displacement: i128) -> u32
     ensures { result ≡ branch displacement }
 {
-    B + displacement.rem_euclid(1 << 26) as u32
-}
-
-// #lo.
-fn low_half(x: i64) -> u32
-    ensures value { result ≡ lo x }
-    ensures half { result < 2 ^ 16 }
-{
-    x.rem_euclid(1 << 16) as u32
-}
-
-// #ha.
-fn adjusted_half(x: i64) -> u32
-    requires { InSigned 32 x }
-    ensures value { result ≡ ha x }
-    ensures half { result < 2 ^ 16 }
-{
-    (x + 0x8000).rem_euclid(1 << 32) as u32 >> 16
+    B + low_bits(displacement, 26) as u32
 }

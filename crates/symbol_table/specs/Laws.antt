@@ -10,7 +10,7 @@ use Rattle.elf64_records.specs.FileHeader.{e_shnum}
 use Rattle.elf64_records.specs.Sections.{sh_size}
 use Rattle.elf64_records.specs.Symbols.{symbol_count, st_value}
 use Rattle.object_set.specs.Files.{file_at}
-use Rattle.object_set.specs.Laws.{file_fit, symbol_fit}
+use Rattle.object_set.specs.laws.Fit.{file_fit, symbol_fit}
 use Rattle.object_set.specs.Refusals.{set_refusal}
 use Rattle.object_set.specs.declared.refusal.Refusal.{Refusal}
 use Rattle.object_set.specs.declared.refusal.Refusal.TheVariants.{EntryNotCode}

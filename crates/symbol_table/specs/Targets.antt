@@ -8,6 +8,7 @@ use Rattle.object_set.specs.Files.{file_at}
 use Rattle.object_set.specs.Sections.{is_text, sort_of}
 use Rattle.object_set.specs.declared.sort.Sort.{Sort}
 use Rattle.object_set.specs.declared.sort.Sort.TheVariants.{Text, Zeroed, Toc, Writable, ReadOnly, Dropped}
+pub use Rattle.object_set.specs.Symbols.{section_index}
 use Rattle.object_set.specs.Symbols.{name_of, is_local, is_weak, has_section, is_absolute, is_toc_base, index_of, lies_in_kept}
 use Rattle.object_set.specs.declared.refusal.Refusal.{Refusal}
 use Rattle.object_set.specs.declared.refusal.Refusal.TheVariants.{NoEntry, EntryNotCode}
@@ -50,10 +51,6 @@ common_number set name = length (shared_before (all_claims set) (position_or_len
 -- a sum modulo 2^64
 abbrev pub moved : ℕ → ℤ → ℕ
 moved value addend = (value + cast_unsigned w64 addend) % 2 ^ 64
-
--- the section of symbol j, where its index is a section's number
-abbrev pub section_index : List ℕ → ℕ → Option ℕ
-section_index b j = if has_section b j then Some (index_of b j) else None
 
 -- where something at an offset of section i of a file goes, by the section's sort: to text, to data, or nowhere where the section
 -- isn't kept

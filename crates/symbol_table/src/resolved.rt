@@ -15,12 +15,10 @@ use crate::role::{is_local, is_weak};
 use crate::table::{Numbers, claims_at, common_number, tabulate};
 use crate::target::{CodePlace, Piece, Target};
 use crate::text::{Places, is_defined, is_text, moved, number_sections, own_target, text_place};
+use elf64_records::constants::TOC_BASE;
 use object_set::{ObjectSet, Refusal};
 use std::alloc::Global;
 use std::marker::Model;
-
-/// The name of the base of the table of contents.
-const TOC_BASE: &[u8] = b".TOC.";
 
 /// What the symbols of a set of files stand for, and where the program is entered. Contracts see the set and the entry's place.
 /// Reading it takes no memory.

@@ -4,23 +4,11 @@ ghost use Rattle.elf64_records.specs.Symbols.{symbol_count};
 ghost use Rattle.object_set.specs.Files.{file_at};
 ghost use Rattle.object_set.specs.Refusals.{set_refusal};
 ghost use Rattle.object_set.specs.Symbols.{is_local, is_weak};
-ghost use Rattle.object_set.specs.Sections.{is_kept_sort};
 ghost use Rattle.symbol_table.specs.Known.{role_of};
 
 use elf64_records::ObjectView;
-use object_set::{ObjectSet, Sort};
-
-const STB_LOCAL: u8 = 0;
-
-const STB_GLOBAL: u8 = 1;
-
-const STB_WEAK: u8 = 2;
-
-pub const SHN_LORESERVE: u16 = 0xFF00;
-
-pub const SHN_ABS: u16 = 0xFFF1;
-
-pub const SHN_COMMON: u16 = 0xFFF2;
+use elf64_records::constants::{SHN_ABS, SHN_COMMON, SHN_LORESERVE, STB_GLOBAL};
+use object_set::ObjectSet;
 
 /// What a GLOBAL or WEAK symbol does for its name.
 #[derive(Clone, Copy)]
@@ -57,7 +45,7 @@ pub fn is_local(view: &ObjectView, j: u32) -> bool
     requires { j < symbol_count view.now }
     ensures { result ≡ is_local view.now j }
 {
-    j == 0 || view.symbol_entry(j).info >> 4 == STB_LOCAL
+    j == 0 || view.symbol_entry(j).is_local()
 }
 
 /// Whether a symbol is WEAK.
@@ -65,7 +53,7 @@ pub fn is_weak(view: &ObjectView, j: u32) -> bool
     requires { j < symbol_count view.now }
     ensures { result ≡ is_weak view.now j }
 {
-    j != 0 && view.symbol_entry(j).info >> 4 == STB_WEAK
+    j != 0 && view.symbol_entry(j).is_weak()
 }
 
 /// What a symbol other than symbol 0 does for its name.
@@ -82,21 +70,11 @@ pub fn role_of(set: &ObjectSet, file: u32, j: u32) -> Role
         SHN_COMMON => return Role::Common,
         SHN_ABS => true,
         SHN_LORESERVE..=0xFFFF => false,
-        section => is_kept(set.sort_of(file, u32::from(section))),
+        section => set.sort_of(file, u32::from(section)).is_kept(),
     };
-    match (defines, symbol.info >> 4) {
+    match (defines, symbol.binding()) {
         (false, _) => Role::Reference,
         (true, STB_GLOBAL) => Role::Global,
         (true, _) => Role::Weak,
-    }
-}
-
-/// Whether a section of this sort is kept.
-pub fn is_kept(sort: Sort) -> bool
-    ensures { result ≡ is_kept_sort sort }
-{
-    match sort {
-        Sort::Dropped => false,
-        Sort::Text | Sort::Zeroed | Sort::Toc | Sort::Writable | Sort::ReadOnly => true,
     }
 }

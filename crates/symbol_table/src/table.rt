@@ -80,7 +80,7 @@ impl<'a> Table<'a> {
     }
 
     /// Refuses the first name that has two GLOBAL definitions.
-    #[tactic(auto, using(elf64_records::specs::Laws::walk_step))]
+    #[tactic(auto, using(elf64_records::specs::laws::First::walk_step))]
     pub fn check_names(&self, alloc: Global) -> Result<(), Refusal>
         requires { length self.now.1 ≡ length self.now.0 }
         ensures { Answers result (duplicates self.now) }

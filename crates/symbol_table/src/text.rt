@@ -7,8 +7,8 @@ ghost use Rattle.object_set.specs.Refusals.{set_refusal};
 ghost use Rattle.symbol_table.specs.Targets.{moved, own_target, section_target, is_defined, instruction_at, is_instruction, section_index, IsPlaced};
 ghost use Rattle.symbol_table.specs.Text.{text_place, text_at, text_in, text_before, text_sections, ArePlaces, AreAllPlaces};
 
-use crate::role::{SHN_ABS, SHN_LORESERVE, is_kept};
 use crate::target::{CodePlace, Piece, Target};
+use elf64_records::constants::{SHN_ABS, SHN_LORESERVE};
 use object_set::{ObjectSet, Sort};
 use std::alloc::{AllocError, Global};
 use std::marker::Model;
@@ -46,10 +46,7 @@ pub fn is_text(set: &ObjectSet, file: u32, section: u32) -> bool
     requires section { section < e_shnum (file_at set.now file) }
     ensures { result ≡ is_text (file_at set.now file) section }
 {
-    match set.sort_of(file, section) {
-        Sort::Text => true,
-        Sort::Zeroed | Sort::Toc | Sort::Writable | Sort::ReadOnly | Sort::Dropped => false,
-    }
+    set.sort_of(file, section).is_text()
 }
 
 /// Puts a section behind others, where it is text.
@@ -180,7 +177,7 @@ pub fn is_defined(set: &ObjectSet, file: u32, j: u32) -> bool
         return true;
     }
     match section_of(set, file, j) {
-        Some(section) => is_kept(set.sort_of(file, section)),
+        Some(section) => set.sort_of(file, section).is_kept(),
         None => false,
     }
 }

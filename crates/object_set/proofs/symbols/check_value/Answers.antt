@@ -1,5 +1,5 @@
 use Rattle.std.proofs.Common.{arith}
-use Rattle.object_set.specs.Laws.{index_in_range}
+use Rattle.object_set.specs.laws.Fit.{index_in_range}
 use Rattle.object_set.proofs.symbols.check_value.Goals as goal
 
 pub sort_of-requires : goal.sort_of-requires

@@ -1,5 +1,5 @@
 use Rattle.std.proofs.Common.{◌-◌, arith}
-use Rattle.elf64_records.specs.Laws.{walk_none}
+use Rattle.elf64_records.specs.laws.First.{walk_none}
 use Rattle.elf64_records.specs.Symbols.{symbol_count}
 use Rattle.object_set.specs.Symbols.{symbol_refusal}
 use Rattle.object_set.proofs.symbols.check_values.Goals as goal

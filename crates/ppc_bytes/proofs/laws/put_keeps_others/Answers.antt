@@ -1,4 +1,4 @@
-use Rattle.ppc_bytes.specs.Laws.{others_stay}
+use Rattle.ppc_bytes.specs.laws.Places.{others_stay}
 use Rattle.ppc_bytes.proofs.laws.put_keeps_others.Goals as goal
 
 pub returns : goal.returns

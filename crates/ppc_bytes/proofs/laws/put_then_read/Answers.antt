@@ -1,4 +1,4 @@
-use Rattle.ppc_bytes.specs.Laws.{read_back}
+use Rattle.ppc_bytes.specs.laws.Places.{read_back}
 use Rattle.ppc_bytes.proofs.laws.put_then_read.Goals as goal
 
 pub returns : goal.returns

@@ -1,6 +1,6 @@
 use Rattle.std.proofs.Common.{arith}
 use Rattle.object_set.specs.Files.{file_at}
-use Rattle.object_set.specs.Laws.{file_fit, symbol_fit}
+use Rattle.object_set.specs.laws.Fit.{file_fit, symbol_fit}
 use Rattle.std.proofs.lemmas.Bool.Decides.{nat_tests}
 use Rattle.symbol_table.proofs.text.section_of.Goals as goal
 

@@ -12,12 +12,12 @@ use Rattle.std.specs.Int.RustNames.{count_ones}
 use Rattle.std.specs.Int.Count.{ones_step}
 use Rattle.ppc_bytes.specs.Bytes.{IsPowerOfTwo}
 use Rattle.elf64_records.specs.First.{◌orelse◌, first_from}
-use Rattle.elf64_records.specs.Laws.{both_none, walk_none}
+use Rattle.elf64_records.specs.laws.First.{both_none, walk_none}
 use Rattle.elf64_records.specs.FileHeader.{e_shnum}
 use Rattle.elf64_records.specs.Sections.{is_kept, sh_type, sh_size, sh_addralign, sh_offset, has_bytes, section_bytes}
 use Rattle.elf64_records.specs.Symbols.{symbol_count, st_value}
 use Rattle.elf64_records.specs.Faults.{object_fault, first_section, range_fault, name_fault}
-use Rattle.elf64_records.specs.Whole.{sections_whole, section_in_file}
+use Rattle.elf64_records.specs.laws.Whole.{sections_whole, section_in_file}
 use Rattle.object_set.specs.declared.sort.Sort.{Sort}
 use Rattle.object_set.specs.declared.sort.Sort.TheVariants.{Text, Zeroed}
 use Rattle.object_set.specs.Files.{file_at}

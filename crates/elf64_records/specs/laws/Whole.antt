@@ -8,7 +8,7 @@ use Rattle.std.specs.List.{list_any}
 use Rattle.elf64_records.specs.declared.fault.ElfFault.TheVariants.{BadTable}
 use Rattle.elf64_records.specs.declared.fault.Place.TheVariants.{Section}
 use Rattle.elf64_records.specs.First.{◌orelse◌, when, first_from}
-use Rattle.elf64_records.specs.Laws.{both_none, walk_none}
+use Rattle.elf64_records.specs.laws.First.{both_none, walk_none}
 use Rattle.elf64_records.specs.FileHeader.{e_shnum}
 use Rattle.elf64_records.specs.Sections.{has_bytes, is_rela, sh_name, sh_offset, sh_size, sh_link, sh_info, section_names}
 use Rattle.elf64_records.specs.Names.{has_zero_from}

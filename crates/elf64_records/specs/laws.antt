@@ -1,0 +1,3 @@
+-- Laws that crates above may cite, with their proofs.
+pub mod First
+pub mod Whole
