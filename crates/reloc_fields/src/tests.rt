@@ -1,4 +1,6 @@
 use crate::{Kind, check, fill, kind_of, value_of, width};
+use std::str::SplitWhitespace;
+use std::test::Fail;
 
 // The field with a value in it, or `None` where it doesn't hold it.
 fn filled(kind: Kind, old: u64, v: i128) -> Option<u64> {
@@ -8,95 +10,77 @@ fn filled(kind: Kind, old: u64, v: i128) -> Option<u64> {
     }
 }
 
-// The number of each kind with a check, the bytes of its field, and four values: the ends of its range, between the next past
-// each. Where a kind asks for a multiple of 4 alone, the ends are two multiples, each with a neighbour that is none.
-#[test]
-fn each_kind_holds_its_range_and_nothing_past_it(rt: HostRuntime) {
-    let rows = [
-        (
-            1,
-            4,
-            [-0x8000_0001, -0x8000_0000, 0xFFFF_FFFF, 0x1_0000_0000],
-        ),
-        (3, 4, [-0x8001, -0x8000, 0x7FFF, 0x8000]),
-        (5, 4, [-0x8000_0001, -0x8000_0000, 0x7FFF_FFFF, 0x8000_0000]),
-        (6, 4, [-0x8000_8001, -0x8000_8000, 0x7FFF_7FFF, 0x7FFF_8000]),
-        (10, 4, [-0x200_0004, -0x200_0000, 0x1FF_FFFC, 0x200_0000]),
-        (11, 4, [-0x8004, -0x8000, 0x7FFC, 0x8000]),
-        (
-            26,
-            4,
-            [-0x8000_0001, -0x8000_0000, 0x7FFF_FFFF, 0x8000_0000],
-        ),
-        (47, 4, [-0x8001, -0x8000, 0x7FFF, 0x8000]),
-        (
-            49,
-            4,
-            [-0x8000_0001, -0x8000_0000, 0x7FFF_FFFF, 0x8000_0000],
-        ),
-        (
-            50,
-            4,
-            [-0x8000_8001, -0x8000_8000, 0x7FFF_7FFF, 0x7FFF_8000],
-        ),
-        (56, 4, [-0x8004, -0x8000, 0x7FFC, 0x8000]),
-        (57, 4, [-0x8001, -0x8000, 0x8000, 0x8001]),
-        (63, 4, [-0x8004, -0x8000, 0x7FFC, 0x8000]),
-        (64, 4, [-0x7FFE, -0x8000, 0x8000, 0x8002]),
-        (116, 4, [-0x200_0004, -0x200_0000, 0x1FF_FFFC, 0x200_0000]),
-        (
-            132,
-            8,
-            [-0x2_0000_0001, -0x2_0000_0000, 0x1_FFFF_FFFF, 0x2_0000_0000],
-        ),
-        (
-            133,
-            8,
-            [-0x2_0000_0001, -0x2_0000_0000, 0x1_FFFF_FFFF, 0x2_0000_0000],
-        ),
-        (
-            252,
-            4,
-            [-0x8000_8001, -0x8000_8000, 0x7FFF_7FFF, 0x7FFF_8000],
-        ),
-    ];
-    for (number, bytes, [below, least, greatest, above]) in rows {
-        let Some(kind) = kind_of(number) else {
-            assert!(rt; false, "no kind {number}");
-            return;
-        };
-        assert_eq!(rt; width(kind), bytes, "width of {number}");
-        assert!(rt; check(kind, below).is_err(), "below {number}");
-        assert!(rt; check(kind, least).is_ok(), "least of {number}");
-        assert!(rt; check(kind, greatest).is_ok(), "greatest of {number}");
-        assert!(rt; check(kind, above).is_err(), "above {number}");
+// For each kind with a check: its number, the bytes of its field, and four values in hex, which are the ends of its range between
+// the next past each. Where a kind asks for a multiple of 4 alone, the ends are two multiples, each with a neighbour that is none.
+const RANGES: &str = "1 4 -80000001 -80000000 FFFFFFFF 100000000
+3 4 -8001 -8000 7FFF 8000
+5 4 -80000001 -80000000 7FFFFFFF 80000000
+6 4 -80008001 -80008000 7FFF7FFF 7FFF8000
+10 4 -2000004 -2000000 1FFFFFC 2000000
+11 4 -8004 -8000 7FFC 8000
+26 4 -80000001 -80000000 7FFFFFFF 80000000
+47 4 -8001 -8000 7FFF 8000
+49 4 -80000001 -80000000 7FFFFFFF 80000000
+50 4 -80008001 -80008000 7FFF7FFF 7FFF8000
+56 4 -8004 -8000 7FFC 8000
+57 4 -8001 -8000 8000 8001
+63 4 -8004 -8000 7FFC 8000
+64 4 -7FFE -8000 8000 8002
+116 4 -2000004 -2000000 1FFFFFC 2000000
+132 8 -200000001 -200000000 1FFFFFFFF 200000000
+133 8 -200000001 -200000000 1FFFFFFFF 200000000
+252 4 -80008001 -80008000 7FFF7FFF 7FFF8000";
+
+// The kind of a row's first column, whose width is the second.
+fn kind_in<'a>(columns: &mut SplitWhitespace<'a>) -> Result<Kind, Fail> {
+    let number: u32 = columns.next().ok_or("a number is wanted")?.parse()?;
+    let bytes: u32 = columns.next().ok_or("a width is wanted")?.parse()?;
+    match kind_of(number) {
+        Some(kind) if width(kind) == bytes => Ok(kind),
+        _ => Err(Fail::new("another kind or width")),
     }
 }
 
+// Whether the kind holds the number of a row's next column.
+fn holds<'a>(kind: Kind, columns: &mut SplitWhitespace<'a>) -> Result<bool, Fail> {
+    let text = columns.next().ok_or("a value is wanted")?;
+    Ok(check(kind, i128::from_str_radix(text, 16)?).is_ok())
+}
+
 #[test]
-fn kinds_without_a_check_hold_every_value(rt: HostRuntime) {
-    for (number, bytes) in [
-        (0, 0),
-        (4, 4),
-        (38, 8),
-        (44, 8),
-        (48, 4),
-        (51, 8),
-        (109, 0),
-        (123, 0),
-        (250, 4),
-    ] {
-        let Some(kind) = kind_of(number) else {
-            assert!(rt; false, "no kind {number}");
-            return;
-        };
-        assert_eq!(rt; width(kind), bytes, "width of {number}");
-        assert!(rt; check(kind, i128::MIN).is_ok());
-        assert!(rt; check(kind, i128::MAX).is_ok());
+fn each_kind_holds_its_range_and_nothing_past_it(rt: HostRuntime) -> Result<(), Fail> {
+    for line in RANGES.lines() {
+        let mut columns = line.split_whitespace();
+        let kind = kind_in(&mut columns)?;
+        for wanted in [false, true, true, false] {
+            assert_eq!(rt; holds(kind, &mut columns)?, wanted, "{line}");
+        }
+    }
+    Ok(())
+}
+
+// Kinds without a check, with the bytes of their fields, and numbers of no kind.
+const UNCHECKED: &str = "0 0
+4 4
+38 8
+44 8
+48 4
+51 8
+109 0
+123 0
+250 4";
+
+#[test]
+fn kinds_without_a_check_hold_every_value(rt: HostRuntime) -> Result<(), Fail> {
+    for line in UNCHECKED.lines() {
+        let kind = kind_in(&mut line.split_whitespace())?;
+        assert!(rt; check(kind, i128::MIN).is_ok(), "{line}");
+        assert!(rt; check(kind, i128::MAX).is_ok(), "{line}");
     }
     for number in [2, 7, 9, 12, 58, 67, 131, 249, 251, 253, u32::MAX] {
         assert!(rt; kind_of(number).is_none(), "a kind {number}");
     }
+    Ok(())
 }
 
 #[test]
