@@ -12,7 +12,8 @@ pub length-program_header : (offset : ℕ) (s : Segment) → length (program_hea
 unfolding program_header half word long
 length-program_header offset s = refl
 
-pub length-program_headers : (end : ℕ) (segments : List Segment) → length (program_headers end segments) ≡ 56 * length segments
+pub length-program_headers : (end : ℕ) (segments : List Segment) →
+    length (program_headers end segments) ≡ 56 * length segments
 length-program_headers end [] = refl
 length-program_headers end (s ∷ rest) =
     let first = length-program_header (page_up end) s in
@@ -20,7 +21,9 @@ length-program_headers end (s ∷ rest) =
     simp length-append (omega (arith, first, others))
 
 -- both headers
-pub length-headers : (entry : ℕ) (segments : List Segment) → length (file_header entry (length segments) ++ program_headers (header_length segments) segments) ≡ header_length segments
+pub length-headers : (entry : ℕ) (segments : List Segment) →
+    length (file_header entry (length segments) ++ program_headers (header_length segments) segments) ≡
+    header_length segments
 length-headers entry segments =
     let first = length-file_header entry (length segments) in
     let others = length-program_headers (header_length segments) segments in
@@ -38,16 +41,30 @@ file_end_above end (s ∷ rest) =
     omega (arith, below, others)
 
 -- a file that began empty and then took both headers
-pub headers_are : (entry : ℕ) (list segments : List Segment) (empty some both : List ℕ) → list ≡ segments → empty ≡ [] → some ≡ empty ++ file_header entry (length list) → both ≡ some ++ program_headers (header_length list) list → both ≡ file_header entry (length segments) ++ program_headers (header_length segments) segments
+pub headers_are : (entry : ℕ) (list segments : List Segment) (empty some both : List ℕ) →
+    list ≡ segments →
+    empty ≡ [] →
+    some ≡ empty ++ file_header entry (length list) →
+    both ≡ some ++ program_headers (header_length list) list →
+    both ≡ file_header entry (length segments) ++ program_headers (header_length segments) segments
 headers_are entry list segments empty some both same none first next = rw (next, first, none, same) refl
 
-pub length-both : (entry : ℕ) (list segments : List Segment) (empty some both : List ℕ) → list ≡ segments → empty ≡ [] → some ≡ empty ++ file_header entry (length list) → both ≡ some ++ program_headers (header_length list) list → length both ≡ header_length list
+pub length-both : (entry : ℕ) (list segments : List Segment) (empty some both : List ℕ) →
+    list ≡ segments →
+    empty ≡ [] →
+    some ≡ empty ++ file_header entry (length list) →
+    both ≡ some ++ program_headers (header_length list) list →
+    length both ≡ header_length list
 length-both entry list segments empty some both same none first next =
     ap length (headers_are entry list segments empty some both same none first next)
     ∙ length-headers entry segments ∙ ap header_length (sym same)
 
 -- a file that had both headers and then took the contents
-pub executable_is : (entry : ℕ) (list segments : List Segment) (before all : List ℕ) → list ≡ segments → before ≡ file_header entry (length segments) ++ program_headers (header_length segments) segments → all ≡ before ++ contents (length before) list → all ≡ executable entry segments
+pub executable_is : (entry : ℕ) (list segments : List Segment) (before all : List ℕ) →
+    list ≡ segments →
+    before ≡ file_header entry (length segments) ++ program_headers (header_length segments) segments →
+    all ≡ before ++ contents (length before) list →
+    all ≡ executable entry segments
 unfolding executable
 executable_is entry list segments before all same both more =
     let size : length before ≡ header_length segments = ap length both ∙ length-headers entry segments in

@@ -15,7 +15,8 @@ use Rattle.elf64_exec.proofs.Lengths.{length-program_header}
 spelled : (n x : ℕ) → x < 256 ^ n → number (take n (little_bytes n x ++ [])) ≡ x
 spelled n x fits =
     let bytes = length-bytes_low_first 0 n x in
-    number-take n (little_bytes n x ++ []) (simp length-append (omega (arith, bytes))) ∙ little_number-reads_back n x [] fits
+    number-take n (little_bytes n x ++ []) (simp length-append (omega (arith, bytes))) ∙
+    little_number-reads_back n x [] fits
 
 -- the fields of a file header
 pub record IsFileHeader (file : List ℕ) (entry count : ℕ) : Type 0 where
@@ -28,7 +29,10 @@ pub record IsFileHeader (file : List ℕ) (entry count : ℕ) : Type 0 where
   pub header_size : e_phentsize file ≡ 56
   pub count_is : e_phnum file ≡ count
 
-pub file_header_says : (entry count : ℕ) (rest : List ℕ) → entry < 2 ^ 64 → count < 65536 → IsFileHeader (file_header entry count ++ rest) entry count
+pub file_header_says : (entry count : ℕ) (rest : List ℕ) →
+    entry < 2 ^ 64 →
+    count < 65536 →
+    IsFileHeader (file_header entry count ++ rest) entry count
 unfolding file_header identification half word long
 file_header_says entry count rest entry_fits count_fits = record {
   magic = refl;
@@ -64,7 +68,9 @@ pub record IsProgramHeader (file : List ℕ) (at offset : ℕ) (s : Segment) : T
   pub stored : number_at 8 file (at + 32) ≡ length s.bytes
   pub size : number_at 8 file (at + 40) ≡ s.size
 
-program_header_first : (offset : ℕ) (s : Segment) (rest : List ℕ) → Fits offset s → IsProgramHeader (program_header offset s ++ rest) 0 offset s
+program_header_first : (offset : ℕ) (s : Segment) (rest : List ℕ) →
+    Fits offset s →
+    IsProgramHeader (program_header offset s ++ rest) 0 offset s
 unfolding program_header half word long
 program_header_first offset s rest fits = record {
   kind = refl;
@@ -76,11 +82,16 @@ program_header_first offset s rest fits = record {
 }
 
 -- a number behind a known front
-number_behind : (n k at : ℕ) (front rest : List ℕ) → length front ≡ at → number_at n (front ++ rest) (at + k) ≡ number_at n rest k
+number_behind : (n k at : ℕ) (front rest : List ℕ) →
+    length front ≡ at →
+    number_at n (front ++ rest) (at + k) ≡ number_at n rest k
 number_behind n k at front rest size =
     ap (λ l. number (take n l)) (sym (drop-drop k at (front ++ rest)) ∙ ap (drop k) (drop_at front rest at size))
 
-program_header_behind : (at offset : ℕ) (s : Segment) (front rest : List ℕ) → length front ≡ at → Fits offset s → IsProgramHeader (front ++ (program_header offset s ++ rest)) at offset s
+program_header_behind : (at offset : ℕ) (s : Segment) (front rest : List ℕ) →
+    length front ≡ at →
+    Fits offset s →
+    IsProgramHeader (front ++ (program_header offset s ++ rest)) at offset s
 program_header_behind at offset s front rest size fits =
     let first = program_header_first offset s rest fits in
     let all = program_header offset s ++ rest in
@@ -94,21 +105,31 @@ program_header_behind at offset s front rest size fits =
     }
 
 -- each program header behind a front
-pub program_headers_say : (end at : ℕ) (segments : List Segment) (front rest : List ℕ) (i : ℕ) (d : Segment) → length front ≡ at → i < length segments → Fits (offset_at end segments i) (get_or segments i d) → IsProgramHeader (front ++ (program_headers end segments ++ rest)) (at + 56 * i) (offset_at end segments i) (get_or segments i d)
+pub program_headers_say : (end at : ℕ) (segments : List Segment) (front rest : List ℕ) (i : ℕ) (d : Segment) →
+    length front ≡ at →
+    i < length segments →
+    Fits (offset_at end segments i) (get_or segments i d) →
+    IsProgramHeader (front ++ (program_headers end segments ++ rest)) (at + 56 * i) (offset_at end segments i)
+    (get_or segments i d)
 program_headers_say end at [] front rest i d size within fits = absurd (omega arith)
 program_headers_say end at (s ∷ others) front rest zero d size within fits =
     let more = program_headers (page_up end + length s.bytes) others in
     let here = program_header_behind at (page_up end) s front (more ++ rest) size fits in
     let place : at ≡ at + 56 * 0 = omega arith in
-    subst (λ (p : ℕ). IsProgramHeader (front ++ ((program_header (page_up end) s ++ more) ++ rest)) p (page_up end) s) place
-    (subst (λ (l : List ℕ). IsProgramHeader (front ++ l) at (page_up end) s) (sym (append_assoc (program_header (page_up end) s) more rest)) here)
+    subst (λ (p : ℕ). IsProgramHeader (front ++ ((program_header (page_up end) s ++ more) ++ rest)) p (page_up end)
+    s) place
+    (subst (λ (l : List ℕ). IsProgramHeader (front ++ l) at (page_up end) s)
+    (sym (append_assoc (program_header (page_up end) s) more rest)) here)
 program_headers_say end at (s ∷ others) front rest (suc i) d size within fits =
     let first = program_header (page_up end) s in
     let next = page_up end + length s.bytes in
     let more = program_headers next others in
-    let longer : length (front ++ first) ≡ at + 56 = simp length-append (omega (arith, size, length-program_header (page_up end) s)) in
+    let longer : length (front ++ first) ≡ at + 56 =
+    simp length-append (omega (arith, size, length-program_header (page_up end) s)) in
     let there = program_headers_say next (at + 56) others (front ++ first) rest i d longer (omega arith) fits in
     let place : at + 56 + 56 * i ≡ at + 56 * suc i = omega arith in
     let same : (front ++ first) ++ (more ++ rest) ≡ front ++ ((first ++ more) ++ rest) = simp append_assoc in
-    subst (λ (p : ℕ). IsProgramHeader (front ++ ((first ++ more) ++ rest)) p (offset_at next others i) (get_or others i d)) place
-    (subst (λ (l : List ℕ). IsProgramHeader l (at + 56 + 56 * i) (offset_at next others i) (get_or others i d)) same there)
+    subst (λ (p : ℕ). IsProgramHeader (front ++ ((first ++ more) ++ rest)) p (offset_at next others i)
+    (get_or others i d)) place
+    (subst (λ (l : List ℕ). IsProgramHeader l (at + 56 + 56 * i) (offset_at next others i) (get_or others i d))
+    same there)

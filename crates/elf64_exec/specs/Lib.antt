@@ -1,4 +1,4 @@
 pub mod Executable
-pub mod Laws
 pub mod Loading
-pub mod Headers
+pub mod laws
+pub mod inside

@@ -91,7 +91,13 @@ loaded_bytes file i = take (p_filesz file i) (drop (p_offset file i) file)
 abbrev pub segment_of : List ℕ → ℕ → Option Segment
 segment_of file i =
     if p_type file i == 1 && nat_lt 0 (p_memsz file i)
-    then Some (record { flags = p_flags file i; address = p_vaddr file i; bytes = loaded_bytes file i; size = p_memsz file i })
+    then Some (record {
+      flags = p_flags file i;
+      address = p_vaddr file i;
+      bytes = loaded_bytes file i;
+      size =
+          p_memsz file i;
+    })
     else None
 
 -- the segments of the first program headers

@@ -5,6 +5,21 @@ ghost use Rattle.elf64_exec.specs.declared.layout.ExecFault.{ExecFault};
 use ppc_bytes::Bytes;
 use std::alloc::{AllocError, AllocFailed};
 
+/// The bytes of the file header (gABI, "ELF Header").
+pub(crate) const FILE_HEADER: usize = 64;
+
+/// The bytes of a program header (gABI, "Program Header").
+pub(crate) const PROGRAM_HEADER: usize = 56;
+
+/// The file type of an executable (e_type).
+pub(crate) const ET_EXEC: u16 = 2;
+
+/// The program header type of bytes to be loaded (p_type).
+pub(crate) const PT_LOAD: u32 = 1;
+
+/// The flag of the ELFv2 ABI in a file header (e_flags).
+pub(crate) const ELFV2: u32 = 2;
+
 /// A range of memory, and the bytes that it begins with. The rest of it is zero.
 #[derive(Debug, Drop)]
 pub struct Segment {

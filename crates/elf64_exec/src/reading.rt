@@ -4,15 +4,14 @@ ghost use Rattle.ppc_bytes.specs.Bytes.{number_at};
 ghost use Rattle.ppc_bytes.specs.Elf.{HasMagic};
 ghost use Rattle.elf64_exec.specs.Executable.{ArePlaced};
 ghost use Rattle.elf64_exec.specs.Loading.{e_phoff, e_phnum, IsExecHeader, IsGood, HasFault, segments_upto, Loads};
-ghost use Rattle.elf64_exec.specs.Headers.{IsHeaderAt, CanFollow};
+ghost use Rattle.elf64_exec.specs.inside.Headers.{IsHeaderAt, CanFollow};
 
-use crate::layout::{ExecFault, Segment, Segments};
+use crate::layout::{
+    ELFV2, ET_EXEC, ExecFault, FILE_HEADER, PROGRAM_HEADER, PT_LOAD, Segment, Segments,
+};
 use crate::memory_map::MEMORY_END;
 use ppc_bytes::{Bytes, half_at, has_magic, is_ppc64_le, long_at, word_at};
 use std::alloc::Global;
-
-/// The program header type of bytes to be loaded.
-const PT_LOAD: u32 = 1;
 
 /// The entry and the segments that the bytes of an executable stand for, or the first thing that is wrong
 /// with them. Program headers of other types and empty segments are skipped.
@@ -38,15 +37,15 @@ pub fn read_exec(alloc: Global, bytes: &[u8]) -> Result<Segments, ExecFault>
 fn is_exec_header(bytes: &[u8]) -> bool
     ensures { IsTrue result ↔ IsExecHeader bytes.now }
 {
-    if bytes.len() < 64 || !is_ppc64_le(bytes) {
+    if bytes.len() < FILE_HEADER || !is_ppc64_le(bytes) {
         return false;
     }
     let flags = word_at(bytes, 48);
-    if flags != 0 && flags != 2 {
+    if flags != 0 && flags != ELFV2 {
         return false;
     }
-    half_at(bytes, 16) == 2
-        && half_at(bytes, 54) == 56
+    half_at(bytes, 16) == ET_EXEC
+        && usize::from(half_at(bytes, 54)) == PROGRAM_HEADER
         && half_at(bytes, 56) > 0
         && are_headers_inside(bytes)
 }
@@ -57,7 +56,8 @@ fn are_headers_inside(bytes: &[u8]) -> bool
 {
     let length = bytes.len() as u64;
     let start = long_at(bytes, 32);
-    start <= length && 56 * u64::from(half_at(bytes, 56)) <= length - start
+    let size = PROGRAM_HEADER as u64 * u64::from(half_at(bytes, 56));
+    start <= length && size <= length - start
 }
 
 /// What a program header says, but for its `p_paddr` and `p_align`.
@@ -72,7 +72,7 @@ pub(crate) struct ProgramHeader {
 }
 
 impl ProgramHeader {
-    ghost use Rattle.elf64_exec.specs.Headers.{IsHeaderAt, CanFollow};
+    ghost use Rattle.elf64_exec.specs.inside.Headers.{IsHeaderAt, CanFollow};
 
     /// The program header at a place.
     fn read(bytes: &[u8], at: usize) -> ProgramHeader
@@ -104,7 +104,12 @@ impl ProgramHeader {
     /// Its segment, with a copy of its bytes.
     fn segment(&self, alloc: Global, bytes: &[u8]) -> Result<Segment, ExecFault>
         requires { self.now.offset + self.now.stored ≤ length bytes.now }
-        ensures segment { IfOk result (λ segment. segment ≡ record { flags = self.now.flags; address = self.now.address; bytes = take self.now.stored (drop self.now.offset bytes.now); size = self.now.size }) }
+        ensures segment { IfOk result (λ segment. segment ≡ record {
+          flags = self.now.flags;
+          address = self.now.address;
+          bytes = take self.now.stored (drop self.now.offset bytes.now);
+          size = self.now.size;
+        }) }
         ensures memory { IfErr result (λ fault. fault ≡ ExecFault.Memory) }
     {
         let from = self.offset as usize;
@@ -123,7 +128,8 @@ fn read_segments(alloc: Global, bytes: &[u8]) -> Result<Vec<Segment>, ExecFault>
     requires magic { HasMagic bytes.now }
     requires header { IsExecHeader bytes.now }
     ensures good { IfOk result (λ list. (i : ℕ) → i < e_phnum bytes.now → IsGood bytes.now i) }
-    ensures segments { IfOk result (λ list. list.items ≡ segments_upto bytes.now (e_phnum bytes.now)) }
+    ensures segments { IfOk result (λ list.
+        list.items ≡ segments_upto bytes.now (e_phnum bytes.now)) }
     ensures placed { IfOk result (λ list. ArePlaced list.items) }
     ensures fault { IfErr result (HasFault bytes.now) }
 {
@@ -132,7 +138,7 @@ fn read_segments(alloc: Global, bytes: &[u8]) -> Result<Vec<Segment>, ExecFault>
     let mut list = Vec::new(alloc);
     let mut top = 0;
     for i in 0..half_at(bytes, 56) {
-        let header = ProgramHeader::read(bytes, start + 56 * i as usize);
+        let header = ProgramHeader::read(bytes, start + PROGRAM_HEADER * i as usize);
         if header.kind == PT_LOAD {
             if !header.can_follow(length, top) {
                 return Err(ExecFault::BadSegment(u32::from(i)));

@@ -2,16 +2,10 @@
 ghost use Rattle.std.specs.Prelude.{◌≡◌, ◌+◌, ◌*◌, ◌^◌, ◌<◌, ◌≤◌, ◌++◌, length, IfOk, OnOk};
 ghost use Rattle.elf64_exec.specs.Executable.{identification, half, word, long, file_header, program_header, page_up, file_end, program_headers, contents, header_length, executable, ArePlaced, IsImage};
 
-use crate::layout::{Segment, Segments};
+use crate::layout::{ELFV2, ET_EXEC, FILE_HEADER, PROGRAM_HEADER, PT_LOAD, Segment, Segments};
 use crate::memory_map::PAGE;
 use ppc_bytes::{Memory, align_up};
 use std::alloc::Global;
-
-/// The bytes of the file header (gABI, "ELF Header").
-const FILE_HEADER: usize = 64;
-
-/// The bytes of a program header (gABI, "Program Header").
-const PROGRAM_HEADER: usize = 56;
 
 /// What an executable's file header begins with (gABI, "ELF Identification").
 const IDENTIFICATION: [u8; 16] = [0x7F, 0x45, 0x4C, 0x46, 2, 1, 1, 0, 0, 0, 0, 0, 0, 0, 0, 0];
@@ -20,7 +14,8 @@ const IDENTIFICATION: [u8; 16] = [0x7F, 0x45, 0x4C, 0x46, 2, 1, 1, 0, 0, 0, 0, 0
 /// memory.
 pub fn write_exec(alloc: Global, segments: &Segments) -> Result<Vec<u8>, Memory>
     requires { IsImage segments.now.list.items }
-    ensures { IfOk result (λ file. file.items ≡ executable segments.now.entry segments.now.list.items) }
+    ensures { IfOk result (λ file.
+        file.items ≡ executable segments.now.entry segments.now.list.items) }
 {
     let list = segments.list.as_slice();
     let mut file = Vec::new(alloc);
@@ -36,15 +31,15 @@ fn push_file_header(file: &mut Vec<u8>, entry: u64, count: u16) -> Result<(), Me
     ensures { OnOk result (file.new.items ≡ file.old.items ++ file_header entry count) }
 {
     push_identification(file)?;
-    push_half(file, 2)?;
+    push_half(file, ET_EXEC)?;
     push_half(file, 21)?;
     push_word(file, 1)?;
     push_long(file, entry)?;
-    push_long(file, 64)?;
+    push_long(file, FILE_HEADER as u64)?;
     push_long(file, 0)?;
-    push_word(file, 2)?;
-    push_half(file, 64)?;
-    push_half(file, 56)?;
+    push_word(file, ELFV2)?;
+    push_half(file, FILE_HEADER as u16)?;
+    push_half(file, PROGRAM_HEADER as u16)?;
     push_half(file, count)?;
     push_half(file, 0)?;
     push_half(file, 0)?;
@@ -62,7 +57,7 @@ fn push_identification(file: &mut Vec<u8>) -> Result<(), Memory>
 fn push_program_header(file: &mut Vec<u8>, offset: u64, segment: &Segment) -> Result<(), Memory>
     ensures { OnOk result (file.new.items ≡ file.old.items ++ program_header offset segment.now) }
 {
-    push_word(file, 1)?;
+    push_word(file, PT_LOAD)?;
     push_word(file, segment.flags)?;
     push_long(file, offset)?;
     push_long(file, segment.address)?;
@@ -105,7 +100,8 @@ fn next_page(n: usize) -> usize
 fn push_program_headers(file: &mut Vec<u8>, list: &[Segment]) -> Result<usize, Memory>
     requires placed { ArePlaced list.now }
     requires few { length list.now ≤ 3 }
-    ensures headers { OnOk result (file.new.items ≡ file.old.items ++ program_headers (header_length list.now) list.now) }
+    ensures headers { OnOk result (file.new.items
+        ≡ file.old.items ++ program_headers (header_length list.now) list.now) }
     ensures end { IfOk result (λ end. end ≡ file_end (header_length list.now) list.now) }
 {
     let mut end = FILE_HEADER + PROGRAM_HEADER * list.len();
@@ -122,7 +118,8 @@ fn push_contents(file: &mut Vec<u8>, list: &[Segment]) -> Result<(), Memory>
     requires placed { ArePlaced list.now }
     requires few { length list.now ≤ 3 }
     requires start { length file.old.items ≤ PAGE }
-    ensures { OnOk result (file.new.items ≡ file.old.items ++ contents (length file.old.items) list.now) }
+    ensures { OnOk result (file.new.items
+        ≡ file.old.items ++ contents (length file.old.items) list.now) }
 {
     for segment in list {
         file.resize(next_page(file.len()), 0)?;

@@ -1,6 +1,6 @@
 -- A request comes to one thing.
 use Rattle.std.proofs.Common.{◌≡◌, ℕ, inl, inr, List, [], ◌∷◌, Option, Some, None, sym, ap, ◌∙◌, subst}
-use Rattle.elf64_exec.specs.Laws.{no_fault, one_fault}
+use Rattle.elf64_exec.specs.laws.Faults.{no_fault, one_fault}
 use Rattle.power_machine.specs.Start.{start_ranges}
 use Rattle.power_machine.specs.Steps.{Reaches}
 use Rattle.power_machine.specs.Laws.{one_progress}

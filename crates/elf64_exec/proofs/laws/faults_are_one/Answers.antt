@@ -1,4 +1,5 @@
-use Rattle.elf64_exec.specs.Laws.{one_fault}
+-- The law, by its lemma.
+use Rattle.elf64_exec.specs.laws.Faults.{one_fault}
 use Rattle.elf64_exec.proofs.laws.faults_are_one.Goals as goal
 
 pub returns : goal.returns

@@ -1,4 +1,5 @@
-use Rattle.elf64_exec.specs.Laws.{no_fault}
+-- The law, by its lemma.
+use Rattle.elf64_exec.specs.laws.Faults.{no_fault}
 use Rattle.elf64_exec.proofs.laws.loaded_has_no_fault.Goals as goal
 
 pub returns : goal.returns

@@ -1,3 +1,4 @@
+-- The law, by its lemma.
 use Rattle.elf64_exec.proofs.Written.{Loads-executable}
 use Rattle.elf64_exec.proofs.laws.written_loads.Goals as goal
 

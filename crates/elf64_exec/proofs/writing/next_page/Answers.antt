@@ -1,3 +1,4 @@
+-- align_up-requires-clause-power: a page is 2 ^ 16 bytes.
 use Rattle.std.proofs.Common.{refl}
 use Rattle.elf64_exec.proofs.writing.next_page.Goals as goal
 
