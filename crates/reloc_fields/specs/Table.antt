@@ -1,5 +1,5 @@
 -- The table of relocations, a line for each kind (ELFv2 ABI, 3.5.3 "Relocation Types Table").
-use Rattle.std.specs.Prelude.{◌≡◌, ℕ, ℤ, pos, neg_ℤ, ◌+ℤ◌, ◌-ℤ◌, ◌≤ℤ◌, ◌<ℤ◌, ◌*◌, ◌+◌, ◌^◌}
+use Rattle.std.specs.Prelude.{◌≡◌, ℕ, ℤ, pos, neg_ℤ, ◌+ℤ◌, ◌-ℤ◌, ◌≤ℤ◌, ◌<ℤ◌, ◌*◌, ◌/◌, ◌%◌, ◌+◌, ◌^◌}
 use Rattle.std.specs.Int.{int_rem_euclid}
 use Rattle.ppc_bytes.specs.Bytes.{InSigned}
 use Rattle.ppc_bytes.specs.Halves.{low_of, lo, hi, ha, d0, d1}
@@ -130,3 +130,16 @@ Passes adjusted_32 x = InSigned 32 (x +ℤ pos 0x8000)
 Passes multiple x = IsMultiple x
 Passes multiple_16 x = InSigned 16 x × IsMultiple x
 Passes multiple_26 x = InSigned 26 x × IsMultiple x
+
+-- the field with a value in it, by division; the prefix of a prefixed instruction is the low word
+abbrev pub filled : Filling → ℕ → ℤ → ℕ
+filled nothing old x = old
+filled word_32 old x = old / 2 ^ 32 * 2 ^ 32 + low_of 32 x
+filled long_64 old x = low_of 64 x
+filled low_half old x = old / 2 ^ 16 * 2 ^ 16 + lo x
+filled high_half old x = old / 2 ^ 16 * 2 ^ 16 + hi x
+filled adjusted_half old x = old / 2 ^ 16 * 2 ^ 16 + ha x
+filled low_half_ds old x = old / 2 ^ 16 * 2 ^ 16 + lo x / 4 * 4 + old % 4
+filled low_14 old x = old / 2 ^ 16 * 2 ^ 16 + lo x / 4 * 4 + old % 4
+filled low_24 old x = old / 2 ^ 26 * 2 ^ 26 + low_of 26 x / 4 * 4 + old % 4
+filled prefix_34 old x = (old / 2 ^ 48 * 2 ^ 16 + d1 x) * 2 ^ 32 + (old % 2 ^ 32 / 2 ^ 18 * 2 ^ 18 + d0 x)

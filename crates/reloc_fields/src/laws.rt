@@ -3,8 +3,7 @@ ghost use Rattle.std.specs.Prelude.{◌≡◌, ◌<◌, ◌*◌, ◌+◌, ◌^�
 ghost use Rattle.ppc_bytes.specs.Bytes.{InSigned};
 ghost use Rattle.ppc_bytes.specs.Halves.{signed_of, lo, hi, ha, whole_ha, IsSmall, d0, d1};
 ghost use Rattle.reloc_fields.specs.Bits.{Fills};
-ghost use Rattle.reloc_fields.specs.Laws.{filled};
-ghost use Rattle.reloc_fields.specs.Table.{Filling, field, mask};
+ghost use Rattle.reloc_fields.specs.Table.{Filling, field, filled, mask};
 
 /// Two numbers that are filled alike are equal.
 pub fn fills_alike()

@@ -1,3 +1,4 @@
+-- returns-clause-bits: each bit, by the bits of the operators that make it.
 use Rattle.reloc_fields.proofs.Merging.{fills}
 use Rattle.reloc_fields.proofs.field.merged.Goals as goal
 

@@ -8,24 +8,16 @@ use Rattle.std.specs.Int.{bit_at}
 use Rattle.ppc_bytes.specs.Halves.{low_of, lo, hi, ha, d0, d1}
 use Rattle.ppc_bytes.specs.laws.Halves.{low_of-lt}
 use Rattle.reloc_fields.specs.Bits.{Fills}
-use Rattle.reloc_fields.specs.Table.{Filling, field, mask}
+use Rattle.reloc_fields.specs.Table.{Filling, field, mask, filled}
 use Rattle.reloc_fields.specs.Table.Filling.{nothing, word_32, long_64, low_half, high_half, adjusted_half, low_half_ds, low_14, low_24, prefix_34}
 
--- the field with a value in it, by division; the prefix of a prefixed instruction is the low word
-abbrev pub filled : Filling → ℕ → ℤ → ℕ
-filled nothing old x = old
-filled word_32 old x = old / 2 ^ 32 * 2 ^ 32 + low_of 32 x
-filled long_64 old x = low_of 64 x
-filled low_half old x = old / 2 ^ 16 * 2 ^ 16 + lo x
-filled high_half old x = old / 2 ^ 16 * 2 ^ 16 + hi x
-filled adjusted_half old x = old / 2 ^ 16 * 2 ^ 16 + ha x
-filled low_half_ds old x = old / 2 ^ 16 * 2 ^ 16 + lo x / 4 * 4 + old % 4
-filled low_14 old x = old / 2 ^ 16 * 2 ^ 16 + lo x / 4 * 4 + old % 4
-filled low_24 old x = old / 2 ^ 26 * 2 ^ 26 + low_of 26 x / 4 * 4 + old % 4
-filled prefix_34 old x = (old / 2 ^ 48 * 2 ^ 16 + d1 x) * 2 ^ 32 + (old % 2 ^ 32 / 2 ^ 18 * 2 ^ 18 + d0 x)
-
 -- two numbers that are filled alike are equal
-pub same_filled : (ones old bits a b : ℕ) → a < 2 ^ 64 → b < 2 ^ 64 → Fills ones old bits a → Fills ones old bits b → a ≡ b
+pub same_filled : (ones old bits a b : ℕ) →
+    a < 2 ^ 64 →
+    b < 2 ^ 64 →
+    Fills ones old bits a →
+    Fills ones old bits b →
+    a ≡ b
 same_filled ones old bits a b fits_a fits_b filled_a filled_b =
     same_from_bits_below 64 a b fits_a fits_b (λ i below. filled_a i below ∙ sym (filled_b i below))
 
@@ -48,29 +40,35 @@ run_before low n old f i h =
 
 run_inside : (low n old f i : ℕ) → low ≤ i → i < low + n → bit_at (with_run low n old f) i ≡ bit_at f (i - low)
 run_inside low n old f i h k =
-    bit_at_cat_high (old / 2 ^ (low + n) * 2 ^ n + f % 2 ^ n) low (old % 2 ^ low) i (mod_below old (2 ^ low) (pow_pos low)) h
+    bit_at_cat_high (old / 2 ^ (low + n) * 2 ^ n + f % 2 ^ n) low (old % 2 ^ low) i
+    (mod_below old (2 ^ low) (pow_pos low)) h
     ∙ bit_at_cat_low (old / 2 ^ (low + n)) n (f % 2 ^ n) (i - low) (omega arith)
     ∙ low_bits f n (i - low) (omega arith)
 
 run_after : (low n old f i : ℕ) → low + n ≤ i → bit_at (with_run low n old f) i ≡ bit_at old i
 run_after low n old f i h =
     let place : (i - low) - n ≡ i - (low + n) = omega arith in
-    bit_at_cat_high (old / 2 ^ (low + n) * 2 ^ n + f % 2 ^ n) low (old % 2 ^ low) i (mod_below old (2 ^ low) (pow_pos low)) (omega arith)
+    bit_at_cat_high (old / 2 ^ (low + n) * 2 ^ n + f % 2 ^ n) low (old % 2 ^ low) i
+    (mod_below old (2 ^ low) (pow_pos low)) (omega arith)
     ∙ bit_at_cat_high (old / 2 ^ (low + n)) n (f % 2 ^ n) (i - low) (mod_below f (2 ^ n) (pow_pos n)) (omega arith)
     ∙ ap (λ j. bit_at (old / 2 ^ (low + n)) j) place ∙ high_bits old (low + n) i h
 
 -- a field whose mask is one run of ones
 pub filled_run : (low n old bits new : ℕ) → low + n ≤ 64 → old < 2 ^ 64 → new < 2 ^ 64 →
     Fills (2 ^ (low + n) - 2 ^ low) old bits new → new ≡ with_run low n old (bits / 2 ^ low)
-filled_run low n old bits new within fits_old fits_new h = same_from_bits new (with_run low n old (bits / 2 ^ low)) (λ i.
+filled_run low n old bits new within fits_old fits_new h =
+    same_from_bits new (with_run low n old (bits / 2 ^ low)) (λ i.
     ⊎_elim
-    (λ (before : i < low). rw (bit_at_mask_below low (low + n) i before) at (h i (omega arith)) ∙ sym (run_before low n old (bits / 2 ^ low) i before))
+    (λ (before : i < low). rw (bit_at_mask_below low (low + n) i before) at (h i (omega arith)) ∙
+    sym (run_before low n old (bits / 2 ^ low) i before))
     (λ (from : low ≤ i). ⊎_elim
     (λ (inside : i < low + n). rw (bit_at_mask_inside low (low + n) i from inside) at (h i (omega arith))
     ∙ sym (run_inside low n old (bits / 2 ^ low) i from inside ∙ high_bits bits low i from))
     (λ (after : low + n ≤ i). ⊎_elim
-    (λ (in_word : i < 64). rw (bit_at_mask_above low (low + n) i after) at (h i in_word) ∙ sym (run_after low n old (bits / 2 ^ low) i after))
-    (λ (out : 64 ≤ i). bit_at_above new 64 i fits_new out ∙ sym (run_after low n old (bits / 2 ^ low) i after ∙ bit_at_above old 64 i fits_old out))
+    (λ (in_word : i < 64). rw (bit_at_mask_above low (low + n) i after) at (h i in_word) ∙
+    sym (run_after low n old (bits / 2 ^ low) i after))
+    (λ (out : 64 ≤ i). bit_at_above new 64 i fits_new out ∙
+    sym (run_after low n old (bits / 2 ^ low) i after ∙ bit_at_above old 64 i fits_old out))
     (cases_lt i 64))
     (cases_lt i (low + n)))
     (cases_lt i low))
@@ -98,7 +96,11 @@ pair_first old low high new i h first =
     rw zero at (h i (omega arith)) ∙ sym (kept ∙ run_after 0 18 old low i after))
     (cases_lt i 18)
 
-pair_second : (old low high new i : ℕ) → low < 2 ^ 32 → Fills 0xFFFF_0003_FFFF old (high * 2 ^ 32 + low) new → 32 ≤ i → i < 64 →
+pair_second : (old low high new i : ℕ) →
+    low < 2 ^ 32 →
+    Fills 0xFFFF_0003_FFFF old (high * 2 ^ 32 + low) new →
+    32 ≤ i →
+    i < 64 →
     bit_at new i ≡ bit_at (with_run 32 16 (with_run 0 18 old low) high) i
 pair_second old low high new i fits h second below =
     ⊎_elim
@@ -113,7 +115,10 @@ pair_second old low high new i fits h second below =
     (cases_lt i 48)
 
 -- a pair of words whose displacement is filled in
-pub filled_pair : (old low high new : ℕ) → new < 2 ^ 64 → with_run 32 16 (with_run 0 18 old low) high < 2 ^ 64 → low < 2 ^ 32 →
+pub filled_pair : (old low high new : ℕ) →
+    new < 2 ^ 64 →
+    with_run 32 16 (with_run 0 18 old low) high < 2 ^ 64 →
+    low < 2 ^ 32 →
     Fills 0xFFFF_0003_FFFF old (high * 2 ^ 32 + low) new → new ≡ with_run 32 16 (with_run 0 18 old low) high
 filled_pair old low high new fits_new fits_runs fits_low h =
     same_from_bits_below 64 new (with_run 32 16 (with_run 0 18 old low) high) fits_new fits_runs (λ i below.
