@@ -1,4 +1,4 @@
--- The table of relocations, a line for each kind (ELFv2 ABI, 3.5.3 "Relocation Types Table").
+-- The table of relocations, a line for each kind (ELFv2 ABI, "Relocation Types Table").
 use Rattle.std.specs.Prelude.{◌≡◌, ℕ, ℤ, pos, neg_ℤ, ◌+ℤ◌, ◌-ℤ◌, ◌≤ℤ◌, ◌<ℤ◌, ◌*◌, ◌/◌, ◌%◌, ◌+◌, ◌^◌}
 use Rattle.std.specs.Int.{int_rem_euclid}
 use Rattle.ppc_bytes.specs.Bytes.{InSigned}

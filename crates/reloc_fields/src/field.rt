@@ -8,7 +8,7 @@ use crate::kind::Kind;
 use ppc_bytes::{d0, d1, ha, hi, low_bits};
 
 /// The field with the value `v` in it. `old` is the field's bytes as a little-endian number, so that of a prefixed
-/// instruction the prefix is the low half. Bits that aren't the kind's keep their value (ELFv2 ABI, 3.5.1 "Relocation
+/// instruction the prefix is the low half. Bits that aren't the kind's keep their value (ELFv2 ABI, "Relocation
 /// Fields"); a field of four bytes stays one.
 pub fn fill(kind: Kind, old: u64, v: i128) -> u64
     requires { Passes (line_of kind).check v }

@@ -3,7 +3,7 @@ ghost use Rattle.std.specs.Prelude.{◌≡◌, ◌≢◌, IfSome, IfNone};
 ghost use Rattle.reloc_fields.specs.declared.kind.Kind.{Kind};
 ghost use Rattle.reloc_fields.specs.Table.{line_of};
 
-/// A kind of relocation, named as in the ABI without `R_PPC64_` (ELFv2 ABI, 3.5.3 "Relocation Types Table").
+/// A kind of relocation, named as in the ABI without `R_PPC64_` (ELFv2 ABI, "Relocation Types Table").
 #[derive(Clone, Copy, Debug, PartialEq, Eq)]
 pub enum Kind {
     None,

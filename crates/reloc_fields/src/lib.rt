@@ -1,5 +1,5 @@
 // Relocations of little-endian 64-bit Power: which kinds there are, the value of each, the range that its field holds, and how
-// the value is put into the field (ELFv2 ABI, 3.5 "Relocation Types"). All of it follows one table, in specs/Table.antt.
+// the value is put into the field (ELFv2 ABI, "Relocation Types"). All of it follows one table, in specs/Table.antt.
 #![tactic(auto)]
 
 mod field;

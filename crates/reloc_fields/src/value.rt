@@ -4,7 +4,7 @@ ghost use Rattle.reloc_fields.specs.Table.{line_of, value};
 
 use crate::kind::Kind;
 
-/// The value of a relocation (ELFv2 ABI, 3.5.2 "Relocation Notations"): `s` is the symbol's address, for `GotPcrel34` that of
+/// The value of a relocation (ELFv2 ABI, "Relocation Notations"): `s` is the symbol's address, for `GotPcrel34` that of
 /// its GOT slot; `a` the addend; `p` the field's address; `toc` the TOC base of the file. Kinds that compute nothing have 0,
 /// `PcrelOpt` its addend, and `Toc` the TOC base.
 pub fn value_of(kind: Kind, s: u64, a: i64, p: u64, toc: u64) -> i128

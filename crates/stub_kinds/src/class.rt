@@ -3,7 +3,7 @@ ghost use Rattle.std.specs.Prelude.{◌≡◌};
 ghost use Rattle.stub_kinds.specs.Stubs.{size_of};
 
 /// How a call comes to its callee. In r2 stands the TOC base of the caller, except in `NearN` and `EntryN`, which are for callers
-/// without one; where a class saves r2, the caller restores it from 24(r1) after the call (ELFv2 ABI, 3.6.1 "Function Call").
+/// without one; where a class saves r2, the caller restores it from 24(r1) after the call (ELFv2 ABI, "Function Call").
 #[derive(Clone, Copy, Debug, PartialEq, Eq)]
 pub enum Class {
     /// To a callee that leaves r2 alone, or to the local entry of one with the caller's TOC base.

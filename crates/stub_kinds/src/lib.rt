@@ -1,5 +1,5 @@
 // Stubs: the few instructions between a call and a callee that the call's own branch doesn't serve, by their sizes and their
-// words (ELFv2 ABI, 3.6.1 "Function Call"). Which call needs which class of stub is decided elsewhere.
+// words (ELFv2 ABI, "Function Call"). Which call needs which class of stub is decided elsewhere.
 #![tactic(auto)]
 
 mod class;

@@ -116,7 +116,8 @@ fn jump_by_distance(x: i128) -> [u32; 8]
 fn switch_near(d: i128, displacement: i128) -> [u32; 8]
     requires moved { InSigned 32 d }
     requires reaches { InSigned 26 displacement }
-    ensures { result ≡ eight (std_r2 ∷ (addis_r2_r2 + ha d) ∷ (addi_r2_r2 + lo d) ∷ branch displacement ∷ []) }
+    ensures { result ≡ eight (std_r2 ∷ (addis_r2_r2 + ha d) ∷ (addi_r2_r2 + lo d)
+        ∷ branch displacement ∷ []) }
 {
     [
         STD_R2,

@@ -23,7 +23,8 @@ pub size_of-grows : (class : Class) → size_of class false ≤ size_of class tr
 size_of-grows = elim [ Same ↦ omega arith | _ ↦ omega arith ]
 
 -- the words fit the size
-pub length-words_of : (class : Class) (far : Bool) (at place base to_base : ℕ) → 4 * length (words_of class far at place base to_base) ≤ size_of class far
+pub length-words_of : (class : Class) (far : Bool) (at place base to_base : ℕ) →
+    4 * length (words_of class far at place base to_base) ≤ size_of class far
 length-words_of Same false at place base to_base = omega arith
 length-words_of Same true at place base to_base = omega arith
 length-words_of Switch false at place base to_base = omega arith
@@ -37,7 +38,8 @@ length-words_of EntryBare far at place base to_base = omega arith
 length-words_of EntryN far at place base to_base = omega arith
 
 -- each word is one
-pub words_of-All : (class : Class) (far : Bool) (at place base to_base : ℕ) → All (λ w. w < 2 ^ 32) (words_of class far at place base to_base)
+pub words_of-All : (class : Class) (far : Bool) (at place base to_base : ℕ) →
+    All (λ w. w < 2 ^ 32) (words_of class far at place base to_base)
 words_of-All Same false at place base to_base = search rules
 words_of-All Same true at place base to_base = search rules
 words_of-All Switch false at place base to_base = search rules
