@@ -1,5 +1,5 @@
 mod Answering
+pub mod Numbers
 pub mod Places
 pub mod Stepping
 pub mod Regions
-pub mod OneStep

@@ -12,7 +12,8 @@ use Rattle.std.proofs.Math.Seq.{map-set_same}
 use Rattle.std.proofs.lemmas.List.{length-map}
 use Rattle.power_machine.specs.declared.memory.Purpose.{Purpose}
 use Rattle.power_machine.specs.declared.memory.Purpose.TheVariants.{Storing}
-use Rattle.power_machine.specs.Memory.{Range, InOrder, IsPlace, stop_of, range_of, ranges_of, holds, allows, place_of, byte_at, bytes_from, put}
+use Rattle.power_machine.specs.Memory.{Range, stop_of, range_of, ranges_of, holds, allows, byte_at, bytes_from, put}
+use Rattle.power_machine.specs.inside.Regions.{InOrder, IsPlace, place_of}
 use Rattle.power_machine.specs.Bytes.{over}
 
 holds_parts : (purpose : Purpose) (at count : ℕ) (r : Range) → holds purpose at count r ≡ true → (r.start ≤ at) × (at + count ≤ r.stop)

@@ -10,9 +10,11 @@ use Rattle.std.proofs.Math.Seq.{get_or-append_right}
 use Rattle.elf64_exec.specs.declared.layout.Segment.{Segment}
 use Rattle.elf64_exec.specs.Executable.{end_of, IsSound, ArePlaced}
 use Rattle.power_machine.specs.declared.memory.Region.{Region}
-use Rattle.power_machine.specs.Memory.{InOrder, stop_of, ranges_of, byte_at}
+use Rattle.power_machine.specs.Memory.{stop_of, ranges_of, byte_at}
+use Rattle.power_machine.specs.inside.Regions.{InOrder}
 use Rattle.power_machine.specs.Numbers.{NumberState}
-use Rattle.power_machine.specs.Start.{start_registers, start_state, segment_range, start_ranges, start_byte, region_of, stack_region, zeros}
+use Rattle.power_machine.specs.Start.{start_registers, start_state, segment_range, start_ranges, start_byte}
+use Rattle.power_machine.specs.inside.Loading.{region_of, stack_region, zeros}
 
 -- the number 0
 abbrev nought : ℕ

@@ -1,14 +1,15 @@
--- System calls: exit, exit_group, read and write, answered by a world (the numbers are Linux's for 64-bit Power).
-use Rattle.std.specs.Prelude.{◌≡◌, ◌≤◌, ℕ, ◌%◌, min, Bool, true, false, ◌||◌, List, [], ◌∷◌, ◌++◌, length, take, drop, Option, Some, slice_index, slice_set, slice_get, if◌then◌else◌, ◌==◌}
+-- System calls: exit, exit_group, read and write, answered by a world (the numbers are Linux's for 64-bit Power). They are said once, for every
+-- kind of value: where a call needs a number and there is none it leaves.
+use Rattle.std.specs.Prelude.{◌≡◌, ◌≤◌, ℕ, ◌%◌, min, Bool, true, false, ◌||◌, List, [], ◌∷◌, ◌++◌, length, map, take, drop, Option, Some, None, slice_set, slice_get, if◌then◌else◌, ◌==◌}
+use Rattle.power_machine.specs.declared.memory.Purpose.{Purpose}
 use Rattle.power_machine.specs.declared.memory.Purpose.TheVariants.{Loading, Storing}
 use Rattle.power_machine.specs.declared.reason.Reason.{Reason}
 use Rattle.power_machine.specs.declared.reason.Reason.TheVariants as why
 use Rattle.power_machine.specs.declared.world.Answer.{Answer}
 use Rattle.power_machine.specs.declared.world.Answer.TheVariants.{Whole, Short, Error}
 use Rattle.power_machine.specs.declared.world.Event.{Event}
-use Rattle.power_machine.specs.Memory.{Range, allows_range, bytes_from, put}
-use Rattle.power_machine.specs.Machines.{sum_address}
-use Rattle.power_machine.specs.Numbers.{NumberState}
+use Rattle.power_machine.specs.Memory.{Permission, allows_range, bytes_from, put}
+use Rattle.power_machine.specs.Machines.{Domain, State, Next, Went, Left, need, check, register}
 
 -- an error's number
 abbrev pub IsAnswer : Answer → Type 0
@@ -19,17 +20,12 @@ abbrev pub AreAnswers : List Answer → Type 0
 AreAnswers answers = (k : ℕ) (answer : Answer) → slice_get answers k ≡ Some answer → IsAnswer answer
 
 -- a machine in its world: its state, the input and the answers to come, the calls so far, and the status where it has ended
-pub record Run : Type 0 where
-  pub state : NumberState
+pub record Run (V B T P : Type 0) : Type 0 where
+  pub state : State V B T P
   pub input : List ℕ
   pub answers : List Answer
   pub events : List Event
   pub ended : Option ℕ
-
-pub data Stepped : Type 0 where
-  Goes : Run → Stepped
-  Ends : ℕ → Run → Stepped
-  Leaves : Reason → ℕ → Stepped
 
 -- when the answers have run out it is Whole
 abbrev pub first_answer : List Answer → Answer
@@ -55,54 +51,81 @@ abbrev pub result_of : Answer → ℕ → ℕ
 result_of (Error e) count = e
 result_of answer count = count
 
-abbrev pub descriptor_of : NumberState → ℕ
-descriptor_of s = slice_index s.registers 3
+-- what a read or a write asks for: its number, and the descriptor, the address and the length of its range
+pub record Asked : Type 0 where
+  pub number : ℕ
+  pub descriptor : ℕ
+  pub address : ℕ
+  pub length : ℕ
 
-abbrev pub address_of : NumberState → ℕ
-address_of s = slice_index s.registers 4
+abbrev pub event_of : Asked → Answer → List ℕ → Event
+event_of q a bytes = record { number = q.number; fd = q.descriptor; address = q.address; length = q.length; bytes = bytes; error = error_of a }
 
-abbrev pub length_of : NumberState → ℕ
-length_of s = slice_index s.registers 5
+-- one more number, where there is one and the others are there
+abbrev pub with_number : Option ℕ → Option (List ℕ) → Option (List ℕ)
+with_number None others = None
+with_number (Some n) None = None
+with_number (Some n) (Some others) = Some (n ∷ others)
 
-abbrev pub event_of : ℕ → NumberState → Answer → List ℕ → Event
-event_of number s a bytes = record { number = number; fd = descriptor_of s; address = address_of s; length = length_of s; bytes = bytes; error = error_of a }
+module _ {V B T P : Type 0} (d : Domain V B T P) where
+  -- the number in a register, if it holds one
+  abbrev pub number_in : Run V B T P → ℕ → Option ℕ
+  number_in r i = d.number (register d r.state.registers i)
 
--- r3 and CR0.SO tell how the call went
-abbrev pub after_call : NumberState → Answer → ℕ → (ℕ → ℕ) → NumberState
-after_call s a count byte = record { at = sum_address s.at 4; registers = slice_set s.registers 3 (result_of a count); condition = slice_set s.condition 3 (is_error a); byte = byte }
+  -- the numbers that bytes are, if each is one
+  abbrev pub numbers_in : List B → Option (List ℕ)
+  numbers_in [] = Some []
+  numbers_in (b ∷ bytes) = with_number (d.byte_number b) (numbers_in bytes)
 
--- the bytes that a read gives
-abbrev pub read_bytes : Run → Answer → List ℕ
-read_bytes r a = take (granted a (length_of r.state)) r.input
+  -- r3 and CR0.SO tell how the call went
+  abbrev pub after_call : State V B T P → Answer → ℕ → (ℕ → B) → State V B T P
+  after_call s a count byte =
+      record { at = d.ahead s.at 4; registers = slice_set s.registers 3 (d.num (result_of a count)); condition = slice_set s.condition 3 (d.flag (is_error a)); byte = byte }
 
--- the bytes that a write takes
-abbrev pub written_bytes : Run → Answer → List ℕ
-written_bytes r a = bytes_from r.state.byte (address_of r.state) (granted a (length_of r.state))
+  -- the run after a call that has come to this state, with this input left
+  abbrev pub answered : Run V B T P → Asked → Answer → List ℕ → List ℕ → State V B T P → Run V B T P
+  answered r q a bytes input s = record { state = s; input = input; answers = drop 1 r.answers; events = r.events ++ event_of q a bytes ∷ []; ended = r.ended }
 
-abbrev pub after_read : Run → Answer → Run
-after_read r a = record { state = after_call r.state a (length (read_bytes r a)) (put r.state.byte (address_of r.state) (read_bytes r a)); input = drop (granted a (length_of r.state)) r.input; answers = drop 1 r.answers; events = r.events ++ event_of 3 r.state a (read_bytes r a) ∷ []; ended = r.ended }
+  -- a read gives the next bytes of the input
+  abbrev pub after_read : Run V B T P → Asked → Answer → List ℕ → Run V B T P
+  after_read r q a bytes =
+      answered r q a bytes (drop (granted a q.length) r.input) (after_call r.state a (length bytes) (put r.state.byte q.address (map d.byte bytes)))
 
-abbrev pub after_write : Run → Answer → Run
-after_write r a = record { state = after_call r.state a (granted a (length_of r.state)) r.state.byte; input = r.input; answers = drop 1 r.answers; events = r.events ++ event_of 4 r.state a (written_bytes r a) ∷ []; ended = r.ended }
+  -- a write takes bytes from memory
+  abbrev pub after_write : Run V B T P → Asked → Answer → List ℕ → Run V B T P
+  after_write r q a bytes = answered r q a bytes r.input (after_call r.state a (granted a q.length) r.state.byte)
 
--- the whole range must be allowed, also where fewer bytes come or go
-abbrev pub reads : List Range → Run → Stepped
-reads ranges r = if allows_range Storing (address_of r.state) (length_of r.state) ranges then Goes (after_read r (first_answer r.answers)) else Leaves why.Store r.state.at
+  -- A read or a write. Its range is known by r4 and r5 and must be allowed as a whole, also where fewer bytes come or go; r3 is looked at last.
+  abbrev pub asking : Permission → Purpose → Reason → ℕ → Run V B T P → (Asked → Next (Run V B T P)) → Next (Run V B T P)
+  asking may purpose reason number r go =
+      need (number_in r 4) why.Value (λ address. need (number_in r 5) why.Value (λ length. check (allows_range may purpose address length) reason
+      (need (number_in r 3) why.Value (λ descriptor. go (record { number = number; descriptor = descriptor; address = address; length = length })))))
 
-abbrev pub writes : List Range → Run → Stepped
-writes ranges r = if allows_range Loading (address_of r.state) (length_of r.state) ranges then Goes (after_write r (first_answer r.answers)) else Leaves why.Load r.state.at
+  abbrev pub read_by : Run V B T P → Answer → Asked → Next (Run V B T P)
+  read_by r a q = Went (after_read r q a (take (granted a q.length) r.input))
 
-abbrev pub exit_status : Run → ℕ
-exit_status r = descriptor_of r.state % 256
+  abbrev pub reads : Permission → Run V B T P → Next (Run V B T P)
+  reads may r = asking may Storing why.Store 3 r (read_by r (first_answer r.answers))
 
-abbrev pub exits : Run → Stepped
-exits r = Ends (exit_status r) (record { state = r.state; input = r.input; answers = r.answers; events = r.events; ended = Some (exit_status r) })
+  -- the bytes that are taken must be numbers
+  abbrev pub write_by : Run V B T P → Answer → Asked → Next (Run V B T P)
+  write_by r a q = need (numbers_in (bytes_from r.state.byte q.address (granted a q.length))) why.Value (λ bytes. Went (after_write r q a bytes))
 
--- the number of the call is in r0
-abbrev pub call_number : Run → ℕ
-call_number r = slice_index r.state.registers 0
+  abbrev pub writes : Permission → Run V B T P → Next (Run V B T P)
+  writes may r = asking may Loading why.Load 4 r (write_by r (first_answer r.answers))
 
-abbrev pub calls : List Range → Run → Stepped
-calls ranges r =
-    if call_number r == 1 || call_number r == 234 then exits r
-    else (if call_number r == 3 then reads ranges r else (if call_number r == 4 then writes ranges r else Leaves why.Call r.state.at))
+  -- the status is the low byte of r3
+  abbrev pub ended_by : Run V B T P → ℕ → Run V B T P
+  ended_by r n = record { state = r.state; input = r.input; answers = r.answers; events = r.events; ended = Some (n % 256) }
+
+  abbrev pub exits : Run V B T P → Next (Run V B T P)
+  exits r = need (number_in r 3) why.Value (λ n. Went (ended_by r n))
+
+  abbrev pub call_by : Permission → Run V B T P → ℕ → Next (Run V B T P)
+  call_by may r number =
+      if number == 1 || number == 234 then exits r
+      else (if number == 3 then reads may r else (if number == 4 then writes may r else Left why.Call))
+
+  -- the number of the call is in r0
+  abbrev pub calls : Permission → Run V B T P → Next (Run V B T P)
+  calls may r = need (number_in r 0) why.Value (call_by may r)

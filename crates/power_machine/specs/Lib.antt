@@ -4,12 +4,8 @@ pub mod Machines
 pub mod Numbers
 pub mod Codes
 pub mod Calls
+pub mod Runs
 pub mod Steps
 pub mod Start
-pub mod Laws
-pub mod Related
-pub mod Simulation
-pub mod Induction
-pub mod Running
-pub mod Kept
-pub mod Window
+pub mod inside
+pub mod laws

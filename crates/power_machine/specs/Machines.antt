@@ -21,7 +21,7 @@ use Rattle.power_machine.specs.declared.memory.Purpose.TheVariants.{Loading, Sto
 use Rattle.power_machine.specs.declared.reason.Reason.{Reason}
 use Rattle.power_machine.specs.declared.reason.Reason.TheVariants as why
 use Rattle.power_machine.specs.Bytes.{over}
-use Rattle.power_machine.specs.Memory.{Range, allows, bytes_from, put}
+use Rattle.power_machine.specs.Memory.{Permission, bytes_from, put}
 
 -- what a kind of values V, bytes B of memory, bits T of the condition register and places P of code offers
 pub record Domain (V B T P : Type 0) : Type 0 where
@@ -33,7 +33,11 @@ pub record Domain (V B T P : Type 0) : Type 0 where
   -- the number that a value is, if it is one
   pub number : V → Option ℕ
   pub bit : T → Option Bool
-  pub no_bit : T
+  -- a Boolean as a bit
+  pub flag : Bool → T
+  -- a number as a byte, and the number that a byte is, if it is one
+  pub byte : ℕ → B
+  pub byte_number : B → Option ℕ
   -- what a load of these bytes gives, and the bytes that a store puts
   pub join : Width → Sign → List B → V
   pub split : Width → V → List B
@@ -54,6 +58,11 @@ pub record State (V B T P : Type 0) : Type 0 where
 pub data Next (S : Type 0) : Type 0 where
   Went : S → Next S
   Left : Reason → Next S
+
+-- the state after, which a leave leaves as it was
+abbrev pub state_after : {S : Type 0} → Next S → S → S
+state_after (Went s) old = s
+state_after (Left why) old = old
 
 -- goes on with a value, or leaves where there is none
 abbrev pub need : {A S : Type 0} → Option A → Reason → (A → Next S) → Next S
@@ -109,13 +118,13 @@ module _ {V B T P : Type 0} (d : Domain V B T P) where
   abbrev pub with_bytes : ℕ → State V B T P → Option ℕ → ℕ → List B → State V B T P
   with_bytes size s update a bytes = record { at = d.ahead s.at size; registers = updated s.registers update a; condition = s.condition; byte = put s.byte a bytes }
 
-  abbrev pub load_at : ℕ → List Range → State V B T P → Width → Sign → ℕ → ℕ → Next (State V B T P)
-  load_at size ranges s width sign to a =
-      check (allows Loading a (bytes_of width) ranges) why.Load (Went (with_result size s to (d.join width sign (bytes_from s.byte a (bytes_of width))) false))
+  abbrev pub load_at : ℕ → Permission → State V B T P → Width → Sign → ℕ → ℕ → Next (State V B T P)
+  load_at size may s width sign to a =
+      check (may Loading a (bytes_of width)) why.Load (Went (with_result size s to (d.join width sign (bytes_from s.byte a (bytes_of width))) false))
 
-  abbrev pub store_at : ℕ → List Range → State V B T P → Width → ℕ → Option ℕ → ℕ → Next (State V B T P)
-  store_at size ranges s width from update a =
-      check (allows Storing a (bytes_of width) ranges) why.Store (Went (with_bytes size s update a (d.split width (register s.registers from))))
+  abbrev pub store_at : ℕ → Permission → State V B T P → Width → ℕ → Option ℕ → ℕ → Next (State V B T P)
+  store_at size may s width from update a =
+      check (may Storing a (bytes_of width)) why.Store (Went (with_bytes size s update a (d.split width (register s.registers from))))
 
   -- the sum of a base and an offset as an address
   abbrev pub with_address : State V B T P → Operand → Operand → (ℕ → Next (State V B T P)) → Next (State V B T P)
@@ -138,7 +147,7 @@ module _ {V B T P : Type 0} (d : Domain V B T P) where
 
   abbrev pub wanted : List T → Condition → Option Bool
   wanted bits Always = Some true
-  wanted bits (Bit bit value) = d.bit (slice_index_or bits bit d.no_bit)
+  wanted bits (Bit bit value) = d.bit (slice_index_or bits bit (d.flag false))
 
   abbrev pub branch_if : ℕ → State V B T P → List V → Bool → Condition → BranchTarget → Bool → Next (State V B T P)
   branch_if size s registers counted condition target link =
@@ -154,12 +163,12 @@ module _ {V B T P : Type 0} (d : Domain V B T P) where
       need (d.number x) why.Value (λ a. need (d.number y) why.Value (λ b. need (quotient sign a b) why.Divide (λ q. Went (with_result size s to (d.num q) rc))))
 
   -- One operation, of an instruction of so many bytes. A call of the system is no operation on the state alone.
-  abbrev pub exec : ℕ → List Range → Operation → State V B T P → Next (State V B T P)
-  exec size ranges (Copy to from rc) s = Went (with_result size s to (value_of s from) rc)
-  exec size ranges (Calculate function to x y rc) s = Went (with_result size s to (d.calculate function (value_of s x) (value_of s y)) rc)
-  exec size ranges (Divide sign to x y rc) s = divide size s sign to (value_of s x) (value_of s y) rc
-  exec size ranges (Compare field width sign x y) s = Went (with_order size s field (d.compare width sign (value_of s x) (value_of s y)))
-  exec size ranges (Load width sign to base offset) s = with_address s base offset (load_at size ranges s width sign to)
-  exec size ranges (Store width from base offset update) s = with_address s base offset (store_at size ranges s width from update)
-  exec size ranges (Branch counter condition target link) s = branch size s counter condition target link
-  exec size ranges System s = Left why.Call
+  abbrev pub exec : ℕ → Permission → Operation → State V B T P → Next (State V B T P)
+  exec size may (Copy to from rc) s = Went (with_result size s to (value_of s from) rc)
+  exec size may (Calculate function to x y rc) s = Went (with_result size s to (d.calculate function (value_of s x) (value_of s y)) rc)
+  exec size may (Divide sign to x y rc) s = divide size s sign to (value_of s x) (value_of s y) rc
+  exec size may (Compare field width sign x y) s = Went (with_order size s field (d.compare width sign (value_of s x) (value_of s y)))
+  exec size may (Load width sign to base offset) s = with_address s base offset (load_at size may s width sign to)
+  exec size may (Store width from base offset update) s = with_address s base offset (store_at size may s width from update)
+  exec size may (Branch counter condition target link) s = branch size s counter condition target link
+  exec size may System s = Left why.Call

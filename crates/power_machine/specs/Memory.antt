@@ -1,6 +1,6 @@
 -- Memory: ranges of addresses that are allowed, which never change, and a byte at each address.
-use Rattle.std.specs.Prelude.{ℕ, zero, suc, ◌+◌, ◌-◌, ◌≤◌, ◌<◌, Bool, true, ◌&&◌, ◌||◌, ◌==◌, List, [], ◌∷◌, length, map, Option, nat_le, nat_lt, if◌then◌else◌, slice_index, slice_index_or}
-use Rattle.std.specs.List.{list_any, position}
+use Rattle.std.specs.Prelude.{ℕ, zero, suc, ◌+◌, ◌-◌, Bool, true, ◌&&◌, ◌||◌, ◌==◌, List, [], ◌∷◌, length, map, nat_le, nat_lt, if◌then◌else◌, slice_index, slice_index_or}
+use Rattle.std.specs.List.{list_any}
 use Rattle.power_machine.specs.declared.memory.Purpose.{Purpose}
 use Rattle.power_machine.specs.declared.memory.Purpose.TheVariants.{Loading, Storing, Fetching}
 use Rattle.power_machine.specs.declared.memory.Region.{Region}
@@ -26,9 +26,17 @@ holds purpose at count r = nat_le r.start at && nat_le (at + count) r.stop && pe
 abbrev pub allows : Purpose → ℕ → ℕ → List Range → Bool
 allows purpose at count ranges = list_any (holds purpose at count) ranges
 
+-- what may be done with so many bytes at an address
+abbrev pub Permission : Type 0
+Permission = Purpose → ℕ → ℕ → Bool
+
+-- what ranges permit
+abbrev pub within : List Range → Permission
+within ranges purpose at count = allows purpose at count ranges
+
 -- a call's range of addresses: one without bytes may be used wherever it lies
-abbrev pub allows_range : Purpose → ℕ → ℕ → List Range → Bool
-allows_range purpose at count ranges = count == 0 || allows purpose at count ranges
+abbrev pub allows_range : Permission → Purpose → ℕ → ℕ → Bool
+allows_range may purpose at count = count == 0 || may purpose at count
 
 -- so many bytes from an address on
 abbrev pub bytes_from : {B : Type 0} → (ℕ → B) → ℕ → ℕ → List B
@@ -56,19 +64,3 @@ covers r a = nat_le r.start a && nat_lt a (stop_of r)
 abbrev pub byte_at : List Region → ℕ → ℕ
 byte_at [] a = 0
 byte_at (r ∷ regions) a = if covers r a then slice_index r.bytes (a - r.start) else byte_at regions a
-
--- the regions end at or below 2^31, are in order of their addresses, and none overlaps another
-pub record InOrder (regions : List Region) : Type 0 where
-  pub low : (i : ℕ) (d : Region) → i < length regions → stop_of (slice_index_or regions i d) ≤ 0x80000000
-  pub apart : (i j : ℕ) (d : Region) → i < j → j < length regions → stop_of (slice_index_or regions i d) ≤ (slice_index_or regions j d).start
-
--- the first region that holds so many bytes at an address
-abbrev pub place_of : Purpose → ℕ → ℕ → List Region → Option ℕ
-place_of purpose at count regions = position (λ r. holds purpose at count (range_of r)) regions
-
--- the region with this index has them
-pub record IsPlace (purpose : Purpose) (at count : ℕ) (regions : List Region) (index : ℕ) : Type 0 where
-  pub within : index < length regions
-  pub starts : (d : Region) → (slice_index_or regions index d).start ≤ at
-  pub ends : (d : Region) → at + count ≤ stop_of (slice_index_or regions index d)
-  pub low : (d : Region) → stop_of (slice_index_or regions index d) ≤ 0x80000000

@@ -2,11 +2,13 @@
 use Rattle.std.specs.Prelude.{◌≡◌, ℕ, ◌-◌, ◌/◌, ◌%◌, true, false, ◌&&◌, ◌==◌, nat_le, nat_lt, List, [], ◌∷◌, ◌++◌, length, map, replicate, None, slice_index, slice_set, if◌then◌else◌}
 use Rattle.elf64_exec.specs.declared.layout.Segment.{Segment}
 use Rattle.elf64_exec.specs.Executable.{end_of}
+use Rattle.elf64_exec.specs.Loading.{Loads}
 use Rattle.power_machine.specs.declared.machine.Machine.{Machine}
 use Rattle.power_machine.specs.Memory.{Range}
-use Rattle.power_machine.specs.declared.memory.Region.{Region}
 use Rattle.power_machine.specs.Numbers.{NumberState, state_of}
-use Rattle.power_machine.specs.Steps.{machine_ranges}
+use Rattle.power_machine.specs.declared.world.Answer.{Answer}
+use Rattle.power_machine.specs.Runs.{Reaches}
+use Rattle.power_machine.specs.Steps.{NumberRun, NumberProgress, IsStep, machine_ranges}
 
 -- flag 2 allows stores, flag 1 fetches
 abbrev pub segment_range : Segment → Range
@@ -36,12 +38,13 @@ pub record IsStart (entry : ℕ) (segments : List Segment) (m : Machine) : Type 
   pub events : m.events.items ≡ []
   pub ended : m.ended ≡ None
 
--- How the machine keeps it: a segment's bytes with zeros behind them, and the stack.
-abbrev pub region_of : Segment → Region
-region_of s = record { start = s.address; writable = s.flags / 2 % 2 == 1; executable = s.flags % 2 == 1; bytes = s.bytes ++ replicate (s.size - length s.bytes) 0 }
+-- a program at its start, in a world with this input and these answers
+abbrev pub start_run : ℕ → List Segment → List ℕ → List Answer → NumberRun
+start_run entry segments input answers = record { state = start_state entry segments; input = input; answers = answers; events = []; ended = None }
 
-unfoldable pub zeros : ℕ → List ℕ
-zeros n = replicate n 0
-
-abbrev pub stack_region : Region
-stack_region = record { start = 0x7F800000; writable = true; executable = false; bytes = zeros 0x800000 }
+-- A file that is an executable, run from its start for at most so many steps, comes to this.
+pub record RunsTo (file input : List ℕ) (answers : List Answer) (n : ℕ) (progress : NumberProgress) : Type 0 where
+  pub entry : ℕ
+  pub segments : List Segment
+  pub loads : Loads file entry segments
+  pub reaches : Reaches (IsStep (start_ranges segments)) n (start_run entry segments input answers) progress

@@ -1,8 +1,9 @@
 // System calls.
 ghost use Rattle.std.specs.Prelude.{◌≡◌, ◌<◌, ◌≤◌, ◌+◌, ◌%◌, ◌||◌, ◌==◌, ℕ, List, Some, None, length};
-ghost use Rattle.power_machine.specs.Memory.{byte_at};
+ghost use Rattle.power_machine.specs.Memory.{byte_at, within};
 ghost use Rattle.power_machine.specs.Calls.{calls, reads, writes, exits, after_call, event_of};
-ghost use Rattle.power_machine.specs.Numbers.{core_ranges, state_of};
+ghost use Rattle.power_machine.specs.Numbers.{numbers, state_of};
+ghost use Rattle.power_machine.specs.inside.Core.{asked_in};
 ghost use Rattle.power_machine.specs.Steps.{run_of, machine_ranges, Performs};
 
 use crate::machine::{Machine, StepOutcome};
@@ -15,7 +16,7 @@ use ppc_bytes::Bytes;
 impl Core {
     // What is recorded of a call with this number, where these bytes came or went.
     fn event(&self, number: u64, answer: Answer, bytes: Bytes) -> Event
-        ensures { result ≡ event_of number (state_of self.now) answer bytes }
+        ensures { result ≡ event_of (asked_in number (state_of self.now)) answer bytes }
     {
         Event {
             number,
@@ -29,7 +30,7 @@ impl Core {
 
     // After a call that was answered, where so many bytes came or went.
     fn called(&mut self, answer: Answer, count: u64)
-        ensures state { state_of self.new ≡ after_call (state_of self.old) answer count (byte_at self.old.memory.regions.items) }
+        ensures state { state_of self.new ≡ after_call numbers (state_of self.old) answer count (byte_at self.old.memory.regions.items) }
         ensures memory { self.new.memory ≡ self.old.memory }
     {
         self.registers[3] = answer.result(count);
@@ -41,7 +42,7 @@ impl Core {
 impl Machine {
     fn exit(&mut self, world: &mut World) -> StepOutcome
         requires { self.old.ended ≡ None }
-        ensures performs { Performs (exits (run_of self.old world.old)) (run_of self.old world.old) (run_of self.new world.new) result }
+        ensures performs { Performs (exits numbers (run_of self.old world.old)) (run_of self.old world.old) (run_of self.new world.new) result }
         ensures ranges { machine_ranges self.new ≡ machine_ranges self.old }
     {
         let status = (self.core.registers[3] % 256) as u8;
@@ -51,7 +52,7 @@ impl Machine {
 
     fn read(&mut self, world: &mut World) -> StepOutcome
         requires { self.old.ended ≡ None }
-        ensures performs { Performs (reads (machine_ranges self.old) (run_of self.old world.old)) (run_of self.old world.old) (run_of self.new world.new) result }
+        ensures performs { Performs (reads numbers (within (machine_ranges self.old)) (run_of self.old world.old)) (run_of self.old world.old) (run_of self.new world.new) result }
         ensures ranges { machine_ranges self.new ≡ machine_ranges self.old }
     {
         let address = self.core.registers[4];
@@ -78,7 +79,7 @@ impl Machine {
 
     fn write(&mut self, world: &mut World) -> StepOutcome
         requires { self.old.ended ≡ None }
-        ensures performs { Performs (writes (machine_ranges self.old) (run_of self.old world.old)) (run_of self.old world.old) (run_of self.new world.new) result }
+        ensures performs { Performs (writes numbers (within (machine_ranges self.old)) (run_of self.old world.old)) (run_of self.old world.old) (run_of self.new world.new) result }
         ensures ranges { machine_ranges self.new ≡ machine_ranges self.old }
     {
         let address = self.core.registers[4];
@@ -102,7 +103,7 @@ impl Machine {
     // A call of the system, by its number in r0.
     pub(crate) fn call(&mut self, world: &mut World) -> StepOutcome
         requires { self.old.ended ≡ None }
-        ensures performs { Performs (calls (machine_ranges self.old) (run_of self.old world.old)) (run_of self.old world.old) (run_of self.new world.new) result }
+        ensures performs { Performs (calls numbers (within (machine_ranges self.old)) (run_of self.old world.old)) (run_of self.old world.old) (run_of self.new world.new) result }
         ensures ranges { machine_ranges self.new ≡ machine_ranges self.old }
     {
         match self.core.registers[0] {

@@ -1,8 +1,9 @@
 // Loading an executable's segments.
 ghost use Rattle.std.specs.Prelude.{◌≡◌, ◌<◌, ◌≤◌, ◌+◌, ◌-◌, ℕ, List, [], ◌∷◌, ◌++◌, replicate, length, map, IfOk, true, false};
 ghost use Rattle.elf64_exec.specs.Executable.{ArePlaced, IsSound};
-ghost use Rattle.power_machine.specs.Memory.{InOrder};
-ghost use Rattle.power_machine.specs.Start.{IsStart, region_of, stack_region, zeros};
+ghost use Rattle.power_machine.specs.inside.Regions.{InOrder};
+ghost use Rattle.power_machine.specs.Start.{IsStart};
+ghost use Rattle.power_machine.specs.inside.Loading.{region_of, stack_region, zeros};
 
 use crate::contents::Contents;
 use crate::machine::Machine;
@@ -33,7 +34,7 @@ fn region_of(segment: Segment) -> Result<Region, Memory>
     })
 }
 
-#[tactic(auto, unfolding(crate::specs::Start::zeros))]
+#[tactic(auto, unfolding(crate::specs::inside::Loading::zeros))]
 fn zeros(alloc: Global, count: usize) -> Result<Contents, Memory>
     ensures { IfOk result (λ bytes. bytes ≡ zeros count) }
 {

@@ -2,9 +2,10 @@
 ghost use Rattle.std.specs.Prelude.{◌≡◌, ◌<◌, ◌+◌, ◌%◌, ◌||◌, ◌==◌, ℕ, List, Some, None, IfOk, true, false};
 ghost use Rattle.power_insns.specs.Operations.{IsWellNamed};
 ghost use Rattle.power_machine.specs.Codes.{IsNext};
-ghost use Rattle.power_machine.specs.Calls.{calls};
-ghost use Rattle.power_machine.specs.Numbers.{core_ranges, state_of};
-ghost use Rattle.power_machine.specs.Steps.{run_of, machine_ranges, Made, Performs, RunAnswers, operates, is_call};
+ghost use Rattle.power_machine.specs.Numbers.{numbers, core_ranges, state_of};
+ghost use Rattle.power_machine.specs.Steps.{run_of, machine_ranges, Made, Performs, RunAnswers};
+ghost use Rattle.power_machine.specs.Runs.{operates, is_call};
+ghost use Rattle.power_machine.specs.Memory.{within};
 
 use crate::code::{Code, code_at};
 use crate::reason::Reason;
@@ -75,7 +76,7 @@ impl Machine {
     fn operate(&mut self, size: u64, operation: &Operation, world: &mut World) -> StepOutcome
         requires names { IsWellNamed operation.now }
         requires going { self.old.ended ≡ None }
-        ensures performs { Performs (operates (machine_ranges self.old) (run_of self.old world.old) size operation.now) (run_of self.old world.old) (run_of self.new world.new) result }
+        ensures performs { Performs (operates numbers (within (machine_ranges self.old)) (run_of self.old world.old) size operation.now) (run_of self.old world.old) (run_of self.new world.new) result }
         ensures ranges { machine_ranges self.new ≡ machine_ranges self.old }
     {
         if is_system(operation) {

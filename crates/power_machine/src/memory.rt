@@ -3,7 +3,8 @@ ghost use Rattle.std.specs.Prelude.{◌≡◌, ◌+◌, ◌≤◌, ◌<◌, ◌-
 ghost use Rattle.power_insns.specs.Arithmetic.{bytes_of};
 ghost use Rattle.power_machine.specs.declared.memory.Purpose.TheVariants.{Loading, Storing};
 ghost use Rattle.power_machine.specs.Bytes.{spelled};
-ghost use Rattle.power_machine.specs.Memory.{InOrder, IsPlace, permits, place_of, range_of, ranges_of, byte_at, bytes_from, put, allows, allows_range};
+ghost use Rattle.power_machine.specs.Memory.{permits, range_of, ranges_of, byte_at, bytes_from, put, allows, allows_range, within};
+ghost use Rattle.power_machine.specs.inside.Regions.{InOrder, IsPlace, place_of};
 
 use crate::contents::{Contents, number_in};
 use power_insns::meaning::Width;
@@ -72,7 +73,7 @@ impl AddressSpace {
 
     /// Whether a call's range may be used. A range without bytes may, wherever it lies.
     pub fn allows(&self, purpose: Purpose, at: u64, count: u64) -> bool
-        ensures { result ≡ allows_range purpose at count (ranges_of self.now.regions.items) }
+        ensures { result ≡ allows_range (within (ranges_of self.now.regions.items)) purpose at count }
     {
         count == 0 || self.holds(purpose, at, count)
     }
@@ -109,7 +110,7 @@ impl AddressSpace {
     /// Puts bytes into a call's range that may be stored into.
     pub fn fill(&mut self, at: u64, room: u64, bytes: &[u8])
         requires fits { length bytes.now ≤ room }
-        requires allowed { allows_range Storing at room (ranges_of self.old.regions.items) ≡ true }
+        requires allowed { allows_range (within (ranges_of self.old.regions.items)) Storing at room ≡ true }
         ensures ranges { ranges_of self.new.regions.items ≡ ranges_of self.old.regions.items }
         ensures filled { byte_at self.new.regions.items ≡ put (byte_at self.old.regions.items) at bytes.now }
     {
@@ -147,7 +148,7 @@ impl AddressSpace {
         count: u64,
     ) -> Result<Option<Bytes>, AllocError>
         requires { count ≤ room }
-        ensures { IfOk result (λ bytes. bytes ≡ (if allows_range Loading at room (ranges_of self.now.regions.items) then Some (bytes_from (byte_at self.now.regions.items) at count) else None)) }
+        ensures { IfOk result (λ bytes. bytes ≡ (if allows_range (within (ranges_of self.now.regions.items)) Loading at room then Some (bytes_from (byte_at self.now.regions.items) at count) else None)) }
     {
         if room == 0 {
             return Ok(Some(Bytes::of(Vec::new(alloc))));

@@ -3,7 +3,9 @@ ghost use Rattle.std.specs.Prelude.{◌≡◌, ◌+◌, ◌*◌, ◌<◌, ◌≤
 ghost use Rattle.power_insns.specs.Arithmetic.{bytes_of};
 ghost use Rattle.power_insns.specs.Operations.{IsWellNamed, NamesOperand, NamesTarget, NamesBit, NamesUpdate};
 ghost use Rattle.power_machine.specs.Machines.{Went, agrees, with_field, with_result, with_order, load_at, store_at, branch, exec, divide as divide_of, value_of, wanted, met, target_of, one_less, sum_address};
-ghost use Rattle.power_machine.specs.Numbers.{Did, numbers, state_of, core_ranges};
+ghost use Rattle.power_machine.specs.Memory.{within};
+ghost use Rattle.power_machine.specs.Numbers.{numbers, state_of, core_ranges};
+ghost use Rattle.power_machine.specs.inside.Core.{Did};
 
 use crate::memory::{AddressSpace, Purpose, size_of};
 use crate::reason::Reason;
@@ -96,7 +98,7 @@ impl Core {
 
     fn load(&mut self, size: u64, width: Width, sign: Sign, to: u32, at: u64) -> CoreOutcome
         requires { to < 34 }
-        ensures { Did (load_at numbers size (core_ranges self.old) (state_of self.old) width sign to at) self.old self.new result }
+        ensures { Did (load_at numbers size (within (core_ranges self.old)) (state_of self.old) width sign to at) self.old self.new result }
     {
         match self.memory.number_at(Purpose::Loading, at, width) {
             Some(n) => self.finish(size, to, widen(width, sign, n), false),
@@ -115,7 +117,7 @@ impl Core {
     ) -> CoreOutcome
         requires from { from < 34 }
         requires update { NamesUpdate update }
-        ensures { Did (store_at numbers size (core_ranges self.old) (state_of self.old) width from update at) self.old self.new result }
+        ensures { Did (store_at numbers size (within (core_ranges self.old)) (state_of self.old) width from update at) self.old self.new result }
     {
         let bytes = self.registers[from as usize].to_le_bytes();
         let count = size_of(width);
@@ -186,7 +188,7 @@ impl Core {
     /// One operation, of an instruction of so many bytes. One that leaves changes nothing.
     pub fn act(&mut self, size: u64, operation: &Operation) -> CoreOutcome
         requires { IsWellNamed operation.now }
-        ensures { Did (exec numbers size (core_ranges self.old) operation.now (state_of self.old)) self.old self.new result }
+        ensures { Did (exec numbers size (within (core_ranges self.old)) operation.now (state_of self.old)) self.old self.new result }
     {
         match *operation {
             Operation::Copy { to, from, rc } => {

@@ -1,4 +1,5 @@
-use Rattle.power_machine.specs.Window.{store_moves_before}
+-- The law of operations that read and write other registers, and of stores.
+use Rattle.power_machine.specs.laws.Window.{store_moves_before}
 use Rattle.power_machine.proofs.laws.stores_move_before.Goals as goal
 
 pub returns : goal.returns

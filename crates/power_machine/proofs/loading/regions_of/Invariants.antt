@@ -1,7 +1,7 @@
 use Rattle.std.proofs.Common.{◌≡◌, ◌++◌, map}
 use Rattle.std.specs.List.{All}
 use Rattle.elf64_exec.specs.Executable.{IsSound}
-use Rattle.power_machine.specs.Start.{region_of}
+use Rattle.power_machine.specs.inside.Loading.{region_of}
 use Rattle.power_machine.proofs.loading.regions_of.Given as goal
 
 -- the regions so far and those of the rest are the whole

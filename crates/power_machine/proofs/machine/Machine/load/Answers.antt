@@ -1,5 +1,6 @@
 use Rattle.std.proofs.Common.{refl, sym, ap, ◌∙◌, subst}
-use Rattle.power_machine.specs.Memory.{InOrder, ranges_of}
+use Rattle.power_machine.specs.Memory.{ranges_of}
+use Rattle.power_machine.specs.inside.Regions.{InOrder}
 use Rattle.power_machine.proofs.Regions.{ranges_start, state_start, regions_in_order}
 use Rattle.power_machine.proofs.machine.Machine.load.Goals as goal
 

@@ -1,7 +1,7 @@
 use Rattle.std.proofs.Common.{ap, ◌∙◌, ◌-◌, take, drop, arith, subst}
 use Rattle.power_insns.specs.Arithmetic.{bytes_of}
 use Rattle.power_machine.specs.Bytes.{spelled}
-use Rattle.power_machine.specs.Memory.{place_of, IsPlace}
+use Rattle.power_machine.specs.inside.Regions.{place_of, IsPlace}
 use Rattle.power_machine.proofs.Places.{read_none, read_some}
 use Rattle.power_machine.proofs.memory.AddressSpace.number_at.Goals as goal
 

@@ -20,74 +20,11 @@ use Rattle.power_insns.specs.Uses.{IsRegister, GoesThrough, Links, Updates}
 use Rattle.power_machine.specs.declared.memory.Purpose.TheVariants.{Loading, Storing}
 use Rattle.power_machine.specs.declared.reason.Reason.{Reason}
 use Rattle.power_machine.specs.declared.reason.Reason.TheVariants as why
-use Rattle.power_machine.specs.Bytes.{over}
-use Rattle.power_machine.specs.Memory.{Range, allows, bytes_from, put}
+use Rattle.power_machine.specs.Memory.{Permission, bytes_from, put}
 use Rattle.power_machine.specs.Machines.{Domain, State, Next, Went, Left, need, check, sum_address, one_less, agrees, met, with_field, register, value_of, with_result, updated, load_at, store_at, with_address, target_of, linked, going, branches, wanted, branch_if, branch, divide, exec}
 use Rattle.power_machine.specs.Numbers.{numbers}
-use Rattle.power_machine.specs.Related.{Pairwise, Known, Simulated, Related, Registers, Memories, AllowsMore, Confined, Match, Bytewise}
-
-pub pairwise_at : {X Y : Type 0} (R : X → Y → Type 0) (xs : List X) (ys : List Y) (i : ℕ) (x : X) (y : Y) → R x y → Pairwise R xs ys → R (slice_index_or xs i x) (slice_index_or ys i y)
-pairwise_at R [] [] i x y h r = h
-pairwise_at R [] (b ∷ ys) i x y h r = absurd r
-pairwise_at R (a ∷ xs) [] i x y h r = absurd r
-pairwise_at R (a ∷ xs) (b ∷ ys) zero x y h r = r.0
-pairwise_at R (a ∷ xs) (b ∷ ys) (suc i) x y h r = pairwise_at R xs ys i x y h r.1
-
-pub pairwise_set : {X Y : Type 0} (R : X → Y → Type 0) (xs : List X) (ys : List Y) (i : ℕ) (x : X) (y : Y) → R x y → Pairwise R xs ys → Pairwise R (slice_set xs i x) (slice_set ys i y)
-pairwise_set R [] [] i x y h r = tt
-pairwise_set R [] (b ∷ ys) i x y h r = absurd r
-pairwise_set R (a ∷ xs) [] i x y h r = absurd r
-pairwise_set R (a ∷ xs) (b ∷ ys) zero x y h r = (h, r.1)
-pairwise_set R (a ∷ xs) (b ∷ ys) (suc i) x y h r = (r.0, pairwise_set R xs ys i x y h r.1)
-
-pub pairwise_take : {X Y : Type 0} (R : X → Y → Type 0) (n : ℕ) (xs : List X) (ys : List Y) → Pairwise R xs ys → Pairwise R (take n xs) (take n ys)
-pairwise_take R zero xs ys r = tt
-pairwise_take R (suc n) [] [] r = tt
-pairwise_take R (suc n) [] (b ∷ ys) r = absurd r
-pairwise_take R (suc n) (a ∷ xs) [] r = absurd r
-pairwise_take R (suc n) (a ∷ xs) (b ∷ ys) r = (r.0, pairwise_take R n xs ys r.1)
-
-pub pairwise_drop : {X Y : Type 0} (R : X → Y → Type 0) (n : ℕ) (xs : List X) (ys : List Y) → Pairwise R xs ys → Pairwise R (drop n xs) (drop n ys)
-pairwise_drop R zero xs ys r = r
-pairwise_drop R (suc n) [] [] r = tt
-pairwise_drop R (suc n) [] (b ∷ ys) r = absurd r
-pairwise_drop R (suc n) (a ∷ xs) [] r = absurd r
-pairwise_drop R (suc n) (a ∷ xs) (b ∷ ys) r = pairwise_drop R n xs ys r.1
-
-pub pairwise_append : {X Y : Type 0} (R : X → Y → Type 0) (xs : List X) (ys : List Y) (us : List X) (vs : List Y) → Pairwise R xs ys → Pairwise R us vs → Pairwise R (xs ++ us) (ys ++ vs)
-pairwise_append R [] [] us vs r q = q
-pairwise_append R [] (b ∷ ys) us vs r q = absurd r
-pairwise_append R (a ∷ xs) [] us vs r q = absurd r
-pairwise_append R (a ∷ xs) (b ∷ ys) us vs r q = (r.0, pairwise_append R xs ys us vs r.1 q)
-
-pub pairwise_length : {X Y : Type 0} (R : X → Y → Type 0) (xs : List X) (ys : List Y) → Pairwise R xs ys → length xs ≡ length ys
-pairwise_length R [] [] r = refl
-pairwise_length R [] (b ∷ ys) r = absurd r
-pairwise_length R (a ∷ xs) [] r = absurd r
-pairwise_length R (a ∷ xs) (b ∷ ys) r = ap suc (pairwise_length R xs ys r.1)
-
-pub pairwise_over : {X Y : Type 0} (R : X → Y → Type 0) (xs : List X) (ys : List Y) (from : ℕ) (us : List X) (vs : List Y) → Pairwise R us vs → Pairwise R xs ys → Pairwise R (over xs from us) (over ys from vs)
-pairwise_over R xs ys from us vs q r =
-    let behind = pairwise_drop R (from + length us) xs ys r in
-    let same = subst (λ n. Pairwise R (drop (from + length us) xs) (drop (from + n) ys)) (pairwise_length R us vs q) behind in
-    pairwise_append R _ _ _ _ (pairwise_take R from xs ys r) (pairwise_append R us vs _ _ q same)
-
-pub pairwise_bytes : {X Y : Type 0} (R : X → Y → Type 0) (f : ℕ → X) (g : ℕ → Y) (a n : ℕ) → Bytewise R f g → Pairwise R (bytes_from f a n) (bytes_from g a n)
-pairwise_bytes R f g a zero h = tt
-pairwise_bytes R f g a (suc n) h = (h a, pairwise_bytes R f g (a + 1) n h)
-
-pub length-bytes_from : {X : Type 0} (f : ℕ → X) (a n : ℕ) → length (bytes_from f a n) ≡ n
-length-bytes_from f a zero = refl
-length-bytes_from f a (suc n) = ap suc (length-bytes_from f (a + 1) n)
-
-pub choice_related : {X Y : Type 0} (R : X → Y → Type 0) (b : Bool) (x x' : X) (y y' : Y) → R x y → R x' y' → R (cond b x x') (cond b y y')
-choice_related R true x x' y y' h k = h
-choice_related R false x x' y y' h k = k
-
-pub put_related : {X Y : Type 0} (R : X → Y → Type 0) (f : ℕ → X) (g : ℕ → Y) (at : ℕ) (xs : List X) (ys : List Y) → Pairwise R xs ys → Bytewise R f g → Bytewise R (put f at xs) (put g at ys)
-put_related R f g at xs ys r h a =
-    let P = λ (n : ℕ). R (put f at xs a) (cond (nat_le at a && nat_lt a (at + n)) (slice_index_or ys (a - at) (g a)) (g a)) in
-    subst P (pairwise_length R xs ys r) (choice_related R (nat_le at a && nat_lt a (at + length xs)) _ _ _ _ (pairwise_at R xs ys (a - at) (f a) (g a) (h a) r) (h a))
+use Rattle.power_machine.specs.laws.Pairwise.{pairwise_at, pairwise_set, pairwise_over, pairwise_bytes, length-bytes_from, choice_related, put_related, pairwise_map, pairwise_same, lists_same}
+use Rattle.power_machine.specs.laws.Related.{Pairwise, Known, Simulated, Related, Registers, Memories, AllowsMore, Confined, Match, Bytewise}
 
 -- what both know takes both on
 pub need_simulated : {X Y S T : Type 0} (Q : X → Y → Type 0) (R : S → T → Type 0) (o : Option X) (o' : Option Y) (reason : Reason) (go : X → Next S) (go' : Y → Next T) → Known Q o o' → ((x : X) (y : Y) → Q x y → Simulated R (go x) (go' y)) → Simulated R (need o reason go) (need o' reason go')
@@ -116,7 +53,7 @@ went_simulated R (Went u) (Went t) s h w = (t, refl, subst (λ z. R z t) (went_o
   went_one : {S : Type 0} (a b : S) → ◌≡◌ {A = Next S} (Went a) (Went b) → a ≡ b
   went_one a b h = cc
 
-module _ {V B T P V' B' T' P' : Type 0} {d : Domain V B T P} {e : Domain V' B' T' P'} {RV : V → V' → Type 0} {RB : B → B' → Type 0} {RT : T → T' → Type 0} {RP : P → P' → Type 0} (laws : Related d e RV RB RT RP) {MayRead MayWrite : ℕ → Type 0} {RR : List V → List V' → Type 0} (files : Registers RV MayRead MayWrite RR) {rs rt : List Range} {Loads Stores : Type 0} {RM : (ℕ → B) → (ℕ → B') → Type 0} (memories : Memories d e RV RB rs Loads Stores RM) (more : AllowsMore rs rt) where
+module _ {V B T P V' B' T' P' : Type 0} {d : Domain V B T P} {e : Domain V' B' T' P'} {RV : V → V' → Type 0} {RB : B → B' → Type 0} {RT : T → T' → Type 0} {RP : P → P' → Type 0} (laws : Related d e RV RB RT RP) {MayRead MayWrite : ℕ → Type 0} {RR : List V → List V' → Type 0} (files : Registers RV MayRead MayWrite RR) {ps pt : Permission} {Loads Stores : Type 0} {RM : (ℕ → B) → (ℕ → B') → Type 0} (memories : Memories d e RV RB ps Loads Stores RM) (more : AllowsMore ps pt) where
   abbrev pub Matches : State V B T P → State V' B' T' P' → Type 0
   Matches s t = Match RT RP RR RM s t
 
@@ -142,18 +79,18 @@ module _ {V B T P V' B' T' P' : Type 0} {d : Domain V B T P} {e : Domain V' B' T
     byte = h.byte;
   }
 
-  pub load_simulated : (size : ℕ) (s : State V B T P) (t : State V' B' T' P') (width : Width) (sign : Sign) (to a : ℕ) → Loads → MayWrite to → Matches s t → Simulates (load_at d size rs s width sign to a) (load_at e size rt t width sign to a)
+  pub load_simulated : (size : ℕ) (s : State V B T P) (t : State V' B' T' P') (width : Width) (sign : Sign) (to a : ℕ) → Loads → MayWrite to → Matches s t → Simulates (load_at d size ps s width sign to a) (load_at e size pt t width sign to a)
   load_simulated size s t width sign to a loads may h =
-      check_simulated Matches (allows Loading a (bytes_of width) rs) (allows Loading a (bytes_of width) rt) why.Load _ _ (more.allowed Loading a (bytes_of width))
-      (λ ok. result_matches size s t to _ _ false may h (laws.join width sign _ _ (length-bytes_from s.byte a (bytes_of width)) (memories.loaded loads s.byte t.byte width a ok h.byte)))
+      check_simulated Matches (ps Loading a (bytes_of width)) (pt Loading a (bytes_of width)) why.Load _ _ (more.allowed Loading a (bytes_of width))
+      (λ ok. result_matches size s t to _ _ false may h (laws.join width sign _ _ (length-bytes_from s.byte a (bytes_of width)) (memories.loaded loads s.byte t.byte a (bytes_of width) ok h.byte)))
 
   pub updated_related : (xs : List V) (ys : List V') (update : Option ℕ) (a : ℕ) → ((r : ℕ) → Updates update r → MayWrite r) → RR xs ys → RR (updated d xs update a) (updated e ys update a)
   updated_related xs ys None a may h = h
   updated_related xs ys (Some r) a may h = files.set xs ys r (d.num a) (e.num a) (may r refl) (laws.num a) h
 
-  pub store_simulated : (size : ℕ) (s : State V B T P) (t : State V' B' T' P') (width : Width) (from : ℕ) (update : Option ℕ) (a : ℕ) → Stores → MayRead from → ((r : ℕ) → Updates update r → MayWrite r) → Matches s t → Simulates (store_at d size rs s width from update a) (store_at e size rt t width from update a)
+  pub store_simulated : (size : ℕ) (s : State V B T P) (t : State V' B' T' P') (width : Width) (from : ℕ) (update : Option ℕ) (a : ℕ) → Stores → MayRead from → ((r : ℕ) → Updates update r → MayWrite r) → Matches s t → Simulates (store_at d size ps s width from update a) (store_at e size pt t width from update a)
   store_simulated size s t width from update a stores may updates h =
-      check_simulated Matches (allows Storing a (bytes_of width) rs) (allows Storing a (bytes_of width) rt) why.Store _ _ (more.allowed Storing a (bytes_of width))
+      check_simulated Matches (ps Storing a (bytes_of width)) (pt Storing a (bytes_of width)) why.Store _ _ (more.allowed Storing a (bytes_of width))
       (λ ok. record {
         at = laws.ahead s.at t.at size h.at;
         registers = updated_related s.registers t.registers update a updates h.registers;
@@ -184,7 +121,7 @@ module _ {V B T P V' B' T' P' : Type 0} {d : Domain V B T P} {e : Domain V' B' T
 
   wanted_related : (s : State V B T P) (t : State V' B' T' P') (condition : Condition) → Matches s t → Known (◌≡◌ {A = Bool}) (wanted d s.condition condition) (wanted e t.condition condition)
   wanted_related s t Always h = refl
-  wanted_related s t (Bit bit value) h = laws.bit _ _ (pairwise_at RT s.condition t.condition bit d.no_bit e.no_bit laws.no_bit h.condition)
+  wanted_related s t (Bit bit value) h = laws.bit _ _ (pairwise_at RT s.condition t.condition bit (d.flag false) (e.flag false) (laws.flag false) h.condition)
 
   branch_if_simulated : (size : ℕ) (s : State V B T P) (t : State V' B' T' P') (xs : List V) (ys : List V') (counted : Bool) (condition : Condition) (target : BranchTarget) (link : Bool) → ((r : ℕ) → GoesThrough target r → MayRead r) → ((r : ℕ) → Links link r → MayWrite r) → Matches s t → RR xs ys → Simulates (branch_if d size s xs counted condition target link) (branch_if e size t ys counted condition target link)
   branch_if_simulated size s t xs ys counted condition target link may may' h r =
@@ -203,7 +140,7 @@ module _ {V B T P V' B' T' P' : Type 0} {d : Domain V B T P} {e : Domain V' B' T
       (λ b. need_same Matches (quotient sign a b) (quotient sign a b) why.Divide _ _ (same_known (quotient sign a b)) (λ n. result_matches size s t to _ _ rc may h (laws.num n))))
 
   -- What the first does the second does.
-  pub exec_simulated : (size : ℕ) (op : Operation) (s : State V B T P) (t : State V' B' T' P') → Confined MayRead MayWrite Loads Stores op → Matches s t → Simulated (Match RT RP RR RM) (exec d size rs op s) (exec e size rt op t)
+  pub exec_simulated : (size : ℕ) (op : Operation) (s : State V B T P) (t : State V' B' T' P') → Confined MayRead MayWrite Loads Stores op → Matches s t → Simulated (Match RT RP RR RM) (exec d size ps op s) (exec e size pt op t)
   exec_simulated size (Copy to from rc) s t c h = result_matches size s t to _ _ rc (c.writes to refl) h (operand_related s t from c.reads h)
   exec_simulated size (Calculate f to x y rc) s t c h =
       result_matches size s t to _ _ rc (c.writes to refl) h (laws.calculate f _ _ _ _ (operand_related s t x (λ r i. c.reads r (inl i)) h) (operand_related s t y (λ r i. c.reads r (inr i)) h))
@@ -219,8 +156,8 @@ module _ {V B T P V' B' T' P' : Type 0} {d : Domain V B T P} {e : Domain V' B' T
   exec_simulated size System s t c h = tt
 
   -- Where the first goes on the second goes on, to a state that matches.
-  pub exec_match : (size : ℕ) (op : Operation) (s s' : State V B T P) (t : State V' B' T' P') → Confined MayRead MayWrite Loads Stores op → Match RT RP RR RM s t → exec d size rs op s ≡ Went s' → (t' : State V' B' T' P') × (exec e size rt op t ≡ Went t') × Match RT RP RR RM s' t'
-  exec_match size op s s' t c h w = went_simulated (Match RT RP RR RM) (exec d size rs op s) (exec e size rt op t) s' (exec_simulated size op s t c h) w
+  pub exec_match : (size : ℕ) (op : Operation) (s s' : State V B T P) (t : State V' B' T' P') → Confined MayRead MayWrite Loads Stores op → Match RT RP RR RM s t → exec d size ps op s ≡ Went s' → (t' : State V' B' T' P') × (exec e size pt op t ≡ Went t') × Match RT RP RR RM s' t'
+  exec_match size op s s' t c h w = went_simulated (Match RT RP RR RM) (exec d size ps op s) (exec e size pt op t) s' (exec_simulated size op s t c h) w
 
 -- any register, and any load and store
 pub unconfined : (op : Operation) → Confined (λ r. Unit {0}) (λ r. Unit {0}) (Unit {0}) (Unit {0}) op
@@ -229,30 +166,19 @@ unconfined op = record { reads = λ r h. tt; writes = λ r h. tt; loads = λ h. 
 pub pairwise_registers : {V V' : Type 0} (RV : V → V' → Type 0) → Registers RV (λ r. Unit {0}) (λ r. Unit {0}) (Pairwise RV)
 pairwise_registers RV = record { get = λ xs ys r x y may h k. pairwise_at RV xs ys r x y h k; set = λ xs ys r x y may h k. pairwise_set RV xs ys r x y h k }
 
-pub bytewise_memories : {V B T P V' B' T' P' : Type 0} {d : Domain V B T P} {e : Domain V' B' T' P'} {RV : V → V' → Type 0} {RB : B → B' → Type 0} {RT : T → T' → Type 0} {RP : P → P' → Type 0} (laws : Related d e RV RB RT RP) (ranges : List Range) → Memories d e RV RB ranges (Unit {0}) (Unit {0}) (Bytewise RB)
-bytewise_memories {RB} laws ranges = record {
-  loaded = λ may f g width a ok h. pairwise_bytes RB f g a (bytes_of width) h;
-  stored = λ may f g width a x y ok r h. put_related RB f g a _ _ (laws.split width x y r) h;
+pub bytewise_memories : {V B T P V' B' T' P' : Type 0} {d : Domain V B T P} {e : Domain V' B' T' P'} {RV : V → V' → Type 0} {RB : B → B' → Type 0} {RT : T → T' → Type 0} {RP : P → P' → Type 0} (laws : Related d e RV RB RT RP) (may : Permission) → Memories d e RV RB may (Unit {0}) (Unit {0}) (Bytewise RB)
+bytewise_memories {RB} laws may = record {
+  loaded = λ loads f g a count ok h. pairwise_bytes RB f g a count h;
+  stored = λ stores f g width a x y ok r h. put_related RB f g a _ _ (laws.split width x y r) h;
+  filled = λ stores f g a count bytes short ok h. put_related RB f g a _ _ (pairwise_map RB _ _ laws.byte bytes) h;
 }
 
-pub same_ranges : (ranges : List Range) → AllowsMore ranges ranges
-same_ranges ranges = record { allowed = λ purpose at count h. h }
+pub same_permission : (may : Permission) → AllowsMore may may
+same_permission may = record { allowed = λ purpose at count h. h }
 
 -- The same over all registers and all of memory: registers pairwise, and bytes at each address.
-pub exec_related : {V B T P V' B' T' P' : Type 0} {d : Domain V B T P} {e : Domain V' B' T' P'} {RV : V → V' → Type 0} {RB : B → B' → Type 0} {RT : T → T' → Type 0} {RP : P → P' → Type 0} (laws : Related d e RV RB RT RP) (size : ℕ) (ranges : List Range) (op : Operation) (s s' : State V B T P) (t : State V' B' T' P') → Match RT RP (Pairwise RV) (Bytewise RB) s t → exec d size ranges op s ≡ Went s' → (t' : State V' B' T' P') × (exec e size ranges op t ≡ Went t') × Match RT RP (Pairwise RV) (Bytewise RB) s' t'
-exec_related {RV} laws size ranges op s s' t h w = exec_match laws (pairwise_registers RV) (bytewise_memories laws ranges) (same_ranges ranges) size op s s' t (unconfined op) h w
-
-pub pairwise_same : {X : Type 0} (xs ys : List X) → xs ≡ ys → Pairwise (◌≡◌ {A = X}) xs ys
-pairwise_same {X} xs ys h = subst (λ zs. Pairwise (◌≡◌ {A = X}) xs zs) h (itself xs) where
-  itself : {X : Type 0} (zs : List X) → Pairwise (◌≡◌ {A = X}) zs zs
-  itself [] = tt
-  itself (z ∷ zs) = (refl, itself zs)
-
-pub lists_same : {X : Type 0} (xs ys : List X) → Pairwise (◌≡◌ {A = X}) xs ys → xs ≡ ys
-lists_same [] [] r = refl
-lists_same [] (y ∷ ys) r = absurd r
-lists_same (x ∷ xs) [] r = absurd r
-lists_same (x ∷ xs) (y ∷ ys) r = ap (λ z. z ∷ xs) r.0 ∙ ap (λ zs. y ∷ zs) (lists_same xs ys r.1)
+pub exec_related : {V B T P V' B' T' P' : Type 0} {d : Domain V B T P} {e : Domain V' B' T' P'} {RV : V → V' → Type 0} {RB : B → B' → Type 0} {RT : T → T' → Type 0} {RP : P → P' → Type 0} (laws : Related d e RV RB RT RP) (size : ℕ) (may : Permission) (op : Operation) (s s' : State V B T P) (t : State V' B' T' P') → Match RT RP (Pairwise RV) (Bytewise RB) s t → exec d size may op s ≡ Went s' → (t' : State V' B' T' P') × (exec e size may op t ≡ Went t') × Match RT RP (Pairwise RV) (Bytewise RB) s' t'
+exec_related {RV} laws size may op s s' t h w = exec_match laws (pairwise_registers RV) (bytewise_memories laws may) (same_permission may) size op s s' t (unconfined op) h w
 
 known_same : {X : Type 0} (o o' : Option X) → o ≡ o' → Known (◌≡◌ {A = X}) o o'
 known_same {X} o o' h = subst (λ z. Known (◌≡◌ {A = X}) o z) h (same_known o)
@@ -265,7 +191,9 @@ equality_related d = record {
   compare = λ width sign x y x' y' h k. pairwise_same _ _ (ap (λ z. d.compare width sign z y) h ∙ ap (λ z. d.compare width sign x' z) k);
   number = λ x y h. known_same _ _ (ap d.number h);
   bit = λ b c h. known_same _ _ (ap d.bit h);
-  no_bit = refl;
+  flag = λ b. refl;
+  byte = λ n. refl;
+  byte_number = λ x y h. known_same _ _ (ap d.byte_number h);
   join = λ width sign xs ys long r. ap (d.join width sign) (lists_same xs ys r);
   split = λ width x y h. pairwise_same _ _ (ap (d.split width) h);
   place = λ x y h. known_same _ _ (ap d.place h);

@@ -14,11 +14,12 @@ use Rattle.power_insns.specs.Uses.{Reads, Writes, access_of}
 use Rattle.power_machine.specs.declared.memory.Purpose.TheVariants.{Loading, Storing}
 use Rattle.power_machine.specs.declared.reason.Reason.{Reason}
 use Rattle.power_machine.specs.declared.reason.Reason.TheVariants as why
-use Rattle.power_machine.specs.Memory.{Range, allows, bytes_from, put}
+use Rattle.power_machine.specs.Memory.{Permission, bytes_from, put}
 use Rattle.power_machine.specs.Machines.{Domain, State, Next, Went, Left, check, sum_address, register, with_result, with_bytes, exec}
 use Rattle.power_machine.specs.Numbers.{numbers, NumberState}
-use Rattle.power_machine.specs.Related.{Simulated, Related, Registers, Memories, AllowsMore, Confined, Match}
-use Rattle.power_machine.specs.Simulation.{exec_simulated, went_simulated, equality_related, pairwise_same, lists_same, same_ranges}
+use Rattle.power_machine.specs.laws.Related.{Simulated, Related, Registers, Memories, AllowsMore, Confined, Match}
+use Rattle.power_machine.specs.laws.Simulation.{exec_simulated, went_simulated, equality_related, same_permission}
+use Rattle.power_machine.specs.laws.Pairwise.{pairwise_same, lists_same}
 
 -- an operation, of an instruction of so many bytes
 pub record Sized : Type 0 where
@@ -31,9 +32,9 @@ after (Left reason) go = Left reason
 after (Went s) go = go s
 
 -- operations one behind the other
-abbrev pub exec_all : {V B T P : Type 0} → Domain V B T P → List Range → List Sized → State V B T P → Next (State V B T P)
-exec_all d ranges [] s = Went s
-exec_all d ranges (x ∷ xs) s = after (exec d x.size ranges x.operation s) (exec_all d ranges xs)
+abbrev pub exec_all : {V B T P : Type 0} → Domain V B T P → Permission → List Sized → State V B T P → Next (State V B T P)
+exec_all d permission [] s = Went s
+exec_all d permission (x ∷ xs) s = after (exec d x.size permission x.operation s) (exec_all d permission xs)
 
 -- each of the operations is so
 abbrev pub AllAre : (Operation → Type 0) → List Sized → Type 0
@@ -45,12 +46,12 @@ after_simulated R (Left reason) next' go go' h k = tt
 after_simulated R (Went s) (Left reason) go go' h k = absurd h
 after_simulated R (Went s) (Went t) go go' h k = k s t h
 
-module _ {V B T P V' B' T' P' : Type 0} {d : Domain V B T P} {e : Domain V' B' T' P'} {RV : V → V' → Type 0} {RB : B → B' → Type 0} {RT : T → T' → Type 0} {RP : P → P' → Type 0} (laws : Related d e RV RB RT RP) {MayRead MayWrite : ℕ → Type 0} {RR : List V → List V' → Type 0} (files : Registers RV MayRead MayWrite RR) {rs rt : List Range} {Loads Stores : Type 0} {RM : (ℕ → B) → (ℕ → B') → Type 0} (memories : Memories d e RV RB rs Loads Stores RM) (more : AllowsMore rs rt) where
+module _ {V B T P V' B' T' P' : Type 0} {d : Domain V B T P} {e : Domain V' B' T' P'} {RV : V → V' → Type 0} {RB : B → B' → Type 0} {RT : T → T' → Type 0} {RP : P → P' → Type 0} (laws : Related d e RV RB RT RP) {MayRead MayWrite : ℕ → Type 0} {RR : List V → List V' → Type 0} (files : Registers RV MayRead MayWrite RR) {ps pt : Permission} {Loads Stores : Type 0} {RM : (ℕ → B) → (ℕ → B') → Type 0} (memories : Memories d e RV RB ps Loads Stores RM) (more : AllowsMore ps pt) where
   -- What the first does over many operations the second does.
-  pub all_simulated : (xs : List Sized) (s : State V B T P) (t : State V' B' T' P') → AllAre (Confined MayRead MayWrite Loads Stores) xs → Match RT RP RR RM s t → Simulated (Match RT RP RR RM) (exec_all d rs xs s) (exec_all e rt xs t)
+  pub all_simulated : (xs : List Sized) (s : State V B T P) (t : State V' B' T' P') → AllAre (Confined MayRead MayWrite Loads Stores) xs → Match RT RP RR RM s t → Simulated (Match RT RP RR RM) (exec_all d ps xs s) (exec_all e pt xs t)
   all_simulated [] s t c h = h
   all_simulated (x ∷ xs) s t c h =
-      after_simulated (Match RT RP RR RM) (exec d x.size rs x.operation s) (exec e x.size rt x.operation t) (exec_all d rs xs) (exec_all e rt xs)
+      after_simulated (Match RT RP RR RM) (exec d x.size ps x.operation s) (exec e x.size pt x.operation t) (exec_all d ps xs) (exec_all e pt xs)
       (exec_simulated laws files memories more x.size x.operation s t c.0 h) (λ u v m. all_simulated xs u v c.1 m)
 
 set_agrees : {V : Type 0} (xs ys : List V) (i : ℕ) (x y : V) (j : ℕ) (z : V) → length xs ≡ length ys → x ≡ y → slice_index_or xs j z ≡ slice_index_or ys j z → slice_index_or (slice_set xs i x) j z ≡ slice_index_or (slice_set ys i y) j z
@@ -84,17 +85,18 @@ aside_registers MayRead MayWrite us vs = record {
 abbrev pub Unstored : {B : Type 0} → (ℕ → B) → (ℕ → B) → (ℕ → B) → (ℕ → B) → Type 0
 Unstored f g f' g' = (f' ≡ f) × (g' ≡ g)
 
-pub unstored_memories : {V B T P : Type 0} (d : Domain V B T P) (ranges : List Range) (f g : ℕ → B) → Memories d d (◌≡◌ {A = V}) (◌≡◌ {A = B}) ranges (f ≡ g) ⊥ (Unstored f g)
-unstored_memories d ranges f g = record {
-  loaded = λ same f' g' width a ok h. pairwise_same _ _ (ap (λ m. bytes_from m a (bytes_of width)) (h.0 ∙ same ∙ sym h.1));
+pub unstored_memories : {V B T P : Type 0} (d : Domain V B T P) (permission : Permission) (f g : ℕ → B) → Memories d d (◌≡◌ {A = V}) (◌≡◌ {A = B}) permission (f ≡ g) ⊥ (Unstored f g)
+unstored_memories d permission f g = record {
+  loaded = λ same f' g' a count ok h. pairwise_same _ _ (ap (λ m. bytes_from m a count) (h.0 ∙ same ∙ sym h.1));
   stored = λ none f' g' width a x y ok r h. absurd none;
+  filled = λ none f' g' a count bytes short ok h. absurd none;
 }
 
 -- Two states of one machine that agree at the registers that may be read go on so, and the registers that may not be written stay.
-pub all_aside : {V B T P : Type 0} (d : Domain V B T P) (ranges : List Range) (MayRead MayWrite : ℕ → Type 0) (xs : List Sized) (s s' t : State V B T P) → AllAre (Confined MayRead MayWrite (s.byte ≡ t.byte) ⊥) xs → s.at ≡ t.at → s.condition ≡ t.condition → length s.registers ≡ length t.registers → ((r : ℕ) (z : V) → MayRead r → slice_index_or s.registers r z ≡ slice_index_or t.registers r z) → exec_all d ranges xs s ≡ Went s' → (t' : State V B T P) × (exec_all d ranges xs t ≡ Went t') × Match (◌≡◌ {A = T}) (◌≡◌ {A = P}) (Aside MayRead MayWrite s.registers t.registers) (Unstored s.byte t.byte) s' t'
-all_aside {T} {P} d ranges MayRead MayWrite xs s s' t c at condition long agree w =
-    went_simulated (Match (◌≡◌ {A = T}) (◌≡◌ {A = P}) (Aside MayRead MayWrite s.registers t.registers) (Unstored s.byte t.byte)) (exec_all d ranges xs s) (exec_all d ranges xs t) s'
-    (all_simulated (equality_related d) (aside_registers MayRead MayWrite s.registers t.registers) (unstored_memories d ranges s.byte t.byte) (same_ranges ranges) xs s t c
+pub all_aside : {V B T P : Type 0} (d : Domain V B T P) (permission : Permission) (MayRead MayWrite : ℕ → Type 0) (xs : List Sized) (s s' t : State V B T P) → AllAre (Confined MayRead MayWrite (s.byte ≡ t.byte) ⊥) xs → s.at ≡ t.at → s.condition ≡ t.condition → length s.registers ≡ length t.registers → ((r : ℕ) (z : V) → MayRead r → slice_index_or s.registers r z ≡ slice_index_or t.registers r z) → exec_all d permission xs s ≡ Went s' → (t' : State V B T P) × (exec_all d permission xs t ≡ Went t') × Match (◌≡◌ {A = T}) (◌≡◌ {A = P}) (Aside MayRead MayWrite s.registers t.registers) (Unstored s.byte t.byte) s' t'
+all_aside {T} {P} d permission MayRead MayWrite xs s s' t c at condition long agree w =
+    went_simulated (Match (◌≡◌ {A = T}) (◌≡◌ {A = P}) (Aside MayRead MayWrite s.registers t.registers) (Unstored s.byte t.byte)) (exec_all d permission xs s) (exec_all d permission xs t) s'
+    (all_simulated (equality_related d) (aside_registers MayRead MayWrite s.registers t.registers) (unstored_memories d permission s.byte t.byte) (same_permission permission) xs s t c
     (record { at = at; registers = record { long = long; agree = agree; first = λ r z no. refl; second = λ r z no. refl }; condition = pairwise_same _ _ condition; byte = (refl, refl) }))
     w
 
@@ -136,8 +138,8 @@ set_itself (x ∷ xs) (suc i) zero z d = refl
 set_itself (x ∷ xs) (suc i) (suc j) z d = set_itself xs i j z d
 
 -- `ori 0,0,0` does nothing.
-pub nop_passes : (size : ℕ) (ranges : List Range) (s : NumberState) → (s' : NumberState) × (exec numbers size ranges (operation_of (Ori 0 0 0)) s ≡ Went s') × SameBut (λ r. ⊥) s' (passed size s)
-nop_passes size ranges s =
+pub nop_passes : (size : ℕ) (permission : Permission) (s : NumberState) → (s' : NumberState) × (exec numbers size permission (operation_of (Ori 0 0 0)) s ≡ Went s') × SameBut (λ r. ⊥) s' (passed size s)
+nop_passes size permission s =
     (_, refl, record { at = refl; long = length-set s.registers 0 (register numbers s.registers 0); registers = λ r z kept. set_itself s.registers 0 r z 0; condition = refl; byte = refl })
 
 -- the address that a register and a displacement give
@@ -181,26 +183,26 @@ store_confined Same rx rs op h = record {
 -- load into ry from rx and a displacement follows them from s, then from t nothing need follow; rx is lost unless it is ry.
 abbrev pub LoadMovesBefore : Type 0
 LoadMovesBefore =
-    (ranges : List Range) (xs : List Sized) (size : ℕ) (width : Width) (sign : Sign) (rx ry disp : ℕ) (s u v t : NumberState) →
+    (permission : Permission) (xs : List Sized) (size : ℕ) (width : Width) (sign : Sign) (rx ry disp : ℕ) (s u v t : NumberState) →
     AllAre (LoadsPast rx ry) xs → SameBut (λ r. (r ≡ rx) ⊎ (r ≡ ry)) s t →
     ((z : ℕ) → slice_index_or t.registers ry z ≡ numbers.join width sign (bytes_from s.byte (address_in s rx disp) (bytes_of width))) →
-    exec_all numbers ranges xs s ≡ Went u → exec numbers size ranges (Load width sign ry (Register rx) (Fixed disp)) u ≡ Went v →
-    (t' : NumberState) × (exec_all numbers ranges xs t ≡ Went t') × SameBut (λ r. (r ≡ rx) × (r ≢ ry)) v (passed size t')
+    exec_all numbers permission xs s ≡ Went u → exec numbers size permission (Load width sign ry (Register rx) (Fixed disp)) u ≡ Went v →
+    (t' : NumberState) × (exec_all numbers permission xs t ≡ Went t') × SameBut (λ r. (r ≡ rx) × (r ≢ ry)) v (passed size t')
 
 -- A store may be made before operations that spare its base, don't write what it stores, and neither load nor store.
 abbrev pub StoreMovesBefore : Type 0
 StoreMovesBefore =
-    (ranges : List Range) (xs : List Sized) (size : ℕ) (width : Width) (rx rs disp : ℕ) (s u v t : NumberState) →
+    (permission : Permission) (xs : List Sized) (size : ℕ) (width : Width) (rx rs disp : ℕ) (s u v t : NumberState) →
     AllAre (StoresPast rx rs) xs → rs ≢ rx → s.at ≡ t.at → s.condition ≡ t.condition → length s.registers ≡ length t.registers →
     ((r : ℕ) (z : ℕ) → r ≢ rx → slice_index_or s.registers r z ≡ slice_index_or t.registers r z) →
     t.byte ≡ put s.byte (address_in s rx disp) (numbers.split width (register numbers s.registers rs)) →
-    exec_all numbers ranges xs s ≡ Went u → exec numbers size ranges (Store width rs (Register rx) (Fixed disp) None) u ≡ Went v →
-    (t' : NumberState) × (exec_all numbers ranges xs t ≡ Went t') × SameBut (λ r. r ≡ rx) v (passed size t')
+    exec_all numbers permission xs s ≡ Went u → exec numbers size permission (Store width rs (Register rx) (Fixed disp) None) u ≡ Went v →
+    (t' : NumberState) × (exec_all numbers permission xs t ≡ Went t') × SameBut (λ r. r ≡ rx) v (passed size t')
 
 pub load_moves_before : LoadMovesBefore
-load_moves_before ranges xs size width sign rx ry disp s u v t c same loaded w q =
+load_moves_before permission xs size width sign rx ry disp s u v t c same loaded w q =
     let May = λ (r : ℕ). (r ≢ rx) × (r ≢ ry) in
-    let k = all_aside numbers ranges May May xs s u t (all_confined _ _ xs (load_confined (s.byte ≡ t.byte) rx ry same.byte) c) same.at same.condition same.long
+    let k = all_aside numbers permission May May xs s u t (all_confined _ _ xs (load_confined (s.byte ≡ t.byte) rx ry same.byte) c) same.at same.condition same.long
     (λ r z may. same.registers r z (λ lost. ⊎_elim may.0 may.1 lost)) w in
     let t' = k.0 in
     let m = k.2 in
@@ -210,7 +212,7 @@ load_moves_before ranges xs size width sign rx ry disp s u v t c same loaded w q
     ap (λ a. numbers.join width sign (bytes_from s.byte (sum_address a disp) (bytes_of width))) (sym base)
     ∙ ap (λ f. numbers.join width sign (bytes_from f (address_in u rx disp) (bytes_of width))) (sym m.byte.0) in
     let is : (z : ℕ) → slice_index_or t'.registers ry z ≡ value u = λ z. m.registers.second ry z (λ may. may.1 refl) ∙ loaded z ∙ same_value in
-    let last : with_result numbers size u ry (value u) false ≡ v = check_went (allows Loading (address_in u rx disp) (bytes_of width) ranges) why.Load _ v q in (
+    let last : with_result numbers size u ry (value u) false ≡ v = check_went (permission Loading (address_in u rx disp) (bytes_of width)) why.Load _ v q in (
       t',
       k.1,
       subst (λ w. SameBut (λ r. (r ≡ rx) × (r ≢ ry)) w (passed size t')) last (record {
@@ -223,8 +225,8 @@ load_moves_before ranges xs size width sign rx ry disp s u v t c same loaded w q
     )
 
 pub store_moves_before : StoreMovesBefore
-store_moves_before ranges xs size width rx rs disp s u v t c other at condition long agree stored w q =
-    let k = all_aside numbers ranges (λ r. r ≢ rx) (λ r. (r ≢ rx) × (r ≢ rs)) xs s u t (all_confined _ _ xs (store_confined (s.byte ≡ t.byte) rx rs) c) at condition long agree w in
+store_moves_before permission xs size width rx rs disp s u v t c other at condition long agree stored w q =
+    let k = all_aside numbers permission (λ r. r ≢ rx) (λ r. (r ≢ rx) × (r ≢ rs)) xs s u t (all_confined _ _ xs (store_confined (s.byte ≡ t.byte) rx rs) c) at condition long agree w in
     let t' = k.0 in
     let m = k.2 in
     let memory_of = λ (w : NumberState). put w.byte (address_in w rx disp) (numbers.split width (register numbers w.registers rs)) in
@@ -234,7 +236,7 @@ store_moves_before ranges xs size width rx rs disp s u v t c other at condition 
     ap (λ f. put f (address_in u rx disp) (numbers.split width (register numbers u.registers rs))) m.byte.0
     ∙ ap (λ a. put s.byte (sum_address a disp) (numbers.split width (register numbers u.registers rs))) base
     ∙ ap (λ x. put s.byte (address_in s rx disp) (numbers.split width x)) value in
-    let last : with_bytes numbers size u None (address_in u rx disp) (numbers.split width (register numbers u.registers rs)) ≡ v = check_went (allows Storing (address_in u rx disp) (bytes_of width) ranges) why.Store _ v q in (
+    let last : with_bytes numbers size u None (address_in u rx disp) (numbers.split width (register numbers u.registers rs)) ≡ v = check_went (permission Storing (address_in u rx disp) (bytes_of width)) why.Store _ v q in (
       t',
       k.1,
       subst (λ w. SameBut (λ r. r ≡ rx) w (passed size t')) last (record {

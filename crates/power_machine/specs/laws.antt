@@ -1,0 +1,9 @@
+pub mod Related
+pub mod Pairwise
+pub mod Simulation
+pub mod Calls
+pub mod Kept
+pub mod Window
+pub mod Induction
+pub mod Runs
+pub mod Steps
