@@ -1,9 +1,10 @@
 -- The segment that an access meets.
-use Rattle.std.proofs.Common.{◌≡◌, ℕ, zero, suc, ◌+◌, ◌-◌, ◌<◌, ◌≤◌, Bool, true, ◌&&◌, ◌||◌, not, List, [], ◌∷◌, length, map, take, drop, get_or, Option, Some, None, refl, sym, ap, ◌∙◌, subst, arith, add-one, add-zero, add_assoc, add_comm, cond}
+use Rattle.std.proofs.Common.{◌≡◌, ℕ, zero, suc, ◌+◌, ◌-◌, ◌<◌, ◌≤◌, Bool, true, false, ◌&&◌, ◌||◌, not, List, [], ◌∷◌, length, map, take, drop, get_or, Option, Some, None, refl, sym, ap, ◌∙◌, subst, arith, add-one, add-zero, add_assoc, add_comm, cond, ⊎_elim}
 use Rattle.std.specs.Prelude.{is_some, nat_le, nat_lt, slice_set}
 use Rattle.std.specs.List.{list_any, position, position_or_len}
 use Rattle.std.proofs.lemmas.List.Quantifiers.{position-Some}
-use Rattle.std.proofs.lemmas.List.{places}
+use Rattle.std.proofs.lemmas.List.{places, get_or_default}
+use Rattle.std.proofs.lemmas.Bool.{cases_lt}
 use Rattle.std.proofs.lemmas.Bool.Decides.{nat_tests}
 use Rattle.std.proofs.Math.Seq.{drop-cons}
 use Rattle.power_machine.specs.declared.memory.Region.{Region}
@@ -13,7 +14,7 @@ use Rattle.std.proofs.lemmas.List.{length-map}
 use Rattle.power_machine.specs.declared.memory.Purpose.{Purpose}
 use Rattle.power_machine.specs.declared.memory.Purpose.TheVariants.{Storing}
 use Rattle.power_machine.specs.Memory.{Range, stop_of, range_of, ranges_of, holds, allows, byte_at, bytes_from, put}
-use Rattle.power_machine.specs.inside.Regions.{InOrder, IsPlace, place_of}
+use Rattle.power_machine.specs.inside.Regions.{BeginBy, InOrder, IsPlace, place_of}
 use Rattle.power_machine.specs.Bytes.{over}
 
 holds_parts : (purpose : Purpose) (at count : ℕ) (r : Range) → holds purpose at count r ≡ true → (r.start ≤ at) × (at + count ≤ r.stop)
@@ -43,6 +44,67 @@ one_more b c n m h = grind (arith, nat_tests)
 any_position : {X : Type 0} (p : X → Bool) (xs : List X) → list_any p xs ≡ is_some (position p xs)
 any_position p [] = refl
 any_position p (x ∷ xs) = one_more (p x) (list_any p xs) (position_or_len p xs) (length xs) (any_position p xs)
+
+none_passes : {X : Type 0} (p : X → Bool) (xs : List X) (i : ℕ) (d : X) → i < length xs → list_any p xs ≡ false → p (get_or xs i d) ≡ false
+none_passes p [] i d h none = absurd (omega arith)
+none_passes p (x ∷ xs) zero d h none = grind (arith, nat_tests)
+none_passes p (x ∷ xs) (suc i) d h none = none_passes p xs i d (omega arith) (grind (arith, nat_tests))
+
+-- regions begin in order
+starts_rise : (regions : List Region) (i j : ℕ) (d : Region) → InOrder regions → i ≤ j → j < length regions → (get_or regions i d).start ≤ (get_or regions j d).start
+starts_rise regions i j d order le h =
+    ⊎_elim
+    (λ less. let apart = order.apart i j d less h in omega arith)
+    (λ most. let e : i ≡ j = omega arith in subst (λ k. (get_or regions i d).start ≤ (get_or regions k d).start) e (omega arith))
+    (cases_lt i j)
+
+start_with : (regions : List Region) (m : ℕ) (s d : Region) → m < length regions → (get_or regions m s).start ≡ (get_or regions m d).start
+start_with regions m s d h = ap (λ (r : Region). r.start) (get_or_default regions m s d h)
+
+-- those in front of one that begins at or below an address do so too
+pub begun_to : (regions : List Region) (m at : ℕ) (s : Region) → InOrder regions → m < length regions → (get_or regions m s).start ≤ at → (i : ℕ) (d : Region) → i < m + 1 → (get_or regions i d).start ≤ at
+begun_to regions m at s order h le i d less = let a = starts_rise regions i m d order (omega arith) h in let b = start_with regions m s d h in omega arith
+
+-- and those behind one that begins behind it don't
+pub ahead_from : (regions : List Region) (m at : ℕ) (s : Region) → InOrder regions → m < length regions → at < (get_or regions m s).start → (i : ℕ) (d : Region) → m ≤ i → i < length regions → at < (get_or regions i d).start
+ahead_from regions m at s order h lt i d le within = let a = starts_rise regions m i d order le within in let b = start_with regions m s d h in omega arith
+
+-- the place that holds bytes is the last that begins at or below them
+place_is_last : (purpose : Purpose) (at count : ℕ) (regions : List Region) (n i : ℕ) (d : Region) → InOrder regions → 0 < count → BeginBy regions at n → place_of purpose at count regions ≡ Some i → i + 1 ≡ n
+place_is_last purpose at count regions n i d order some begun h =
+    let place = place_found purpose at count regions i order h in
+    let starts = place.starts d in
+    let ends = place.ends d in
+    ⊎_elim
+    (λ less. ⊎_elim (λ lower. absurd (let a = order.apart i (n - 1) d lower (omega (arith, begun.within)) in let b = begun.begun (n - 1) d (omega arith) in omega arith)) (λ same. omega arith) (cases_lt i (n - 1)))
+    (λ more. absurd (let a = begun.ahead i d more place.within in omega arith))
+    (cases_lt i n)
+
+place_by : (purpose : Purpose) (at count : ℕ) (regions : List Region) (n i : ℕ) (d : Region) (o : Option ℕ) → place_of purpose at count regions ≡ o → InOrder regions → 0 < count → BeginBy regions at n → i + 1 ≡ n → cond (holds purpose at count (range_of (get_or regions i d))) (Some i) None ≡ o
+place_by purpose at count regions n i d None h order some begun last =
+    let any : list_any (λ r. holds purpose at count (range_of r)) regions ≡ false = any_position _ regions ∙ ap is_some h in
+    ap (λ b. cond b (Some i) None) (none_passes (λ r. holds purpose at count (range_of r)) regions i d (omega (arith, begun.within)) any)
+place_by purpose at count regions n i d (Some k) h order some begun last =
+    let same : k ≡ i = omega (arith, place_is_last purpose at count regions n k d order some begun h) in
+    let passes = (position-Some (λ r. holds purpose at count (range_of r)) regions k d h).1 in
+    let here : holds purpose at count (range_of (get_or regions i d)) ≡ true = subst (λ j. holds purpose at count (range_of (get_or regions j d)) ≡ true) same passes in
+    ap (λ b. cond b (Some i) None) here ∙ ap Some (sym same)
+
+-- one test tells the place
+pub place_tested : (purpose : Purpose) (at count : ℕ) (regions : List Region) (n i : ℕ) (d : Region) (b : Bool) → InOrder regions → 0 < count → BeginBy regions at n → i + 1 ≡ n → b ≡ holds purpose at count (range_of (get_or regions i d)) → cond b (Some i) None ≡ place_of purpose at count regions
+place_tested purpose at count regions n i d b order some begun last is = ap (λ b. cond b (Some i) None) is ∙ place_by purpose at count regions n i d (place_of purpose at count regions) refl order some begun last
+
+none_begun : (purpose : Purpose) (at count : ℕ) (regions : List Region) (d : Region) (o : Option ℕ) → place_of purpose at count regions ≡ o → InOrder regions → 0 < count → BeginBy regions at 0 → None ≡ o
+none_begun purpose at count regions d None h order some begun = refl
+none_begun purpose at count regions d (Some k) h order some begun = absurd (omega (arith, place_is_last purpose at count regions 0 k d order some begun h))
+
+-- none begins at or below
+-- some region, where one is wanted and which is all the same
+abbrev pub some_region : Region
+some_region = record { start = 0; writable = true; executable = true; bytes = [] }
+
+pub no_place : (purpose : Purpose) (at count : ℕ) (regions : List Region) (d : Region) → InOrder regions → 0 < count → BeginBy regions at 0 → None ≡ place_of purpose at count regions
+no_place purpose at count regions d order some begun = none_begun purpose at count regions d (place_of purpose at count regions) refl order some begun
 
 -- whether there is one is what the ranges say
 pub allows_is : (purpose : Purpose) (at count : ℕ) (regions : List Region) (o : Option ℕ) → place_of purpose at count regions ≡ o → allows purpose at count (ranges_of regions) ≡ is_some o

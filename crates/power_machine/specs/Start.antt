@@ -7,8 +7,7 @@ use Rattle.power_machine.specs.declared.machine.Machine.{Machine}
 use Rattle.power_machine.specs.Memory.{Range}
 use Rattle.power_machine.specs.Numbers.{NumberState, state_of}
 use Rattle.power_machine.specs.declared.world.Answer.{Answer}
-use Rattle.power_machine.specs.Runs.{Reaches}
-use Rattle.power_machine.specs.Steps.{NumberRun, NumberProgress, IsStep, machine_ranges}
+use Rattle.power_machine.specs.Steps.{NumberRun, NumberProgress, ReachesIn, machine_ranges}
 
 -- flag 2 allows stores, flag 1 fetches
 abbrev pub segment_range : Segment → Range
@@ -47,4 +46,4 @@ pub record RunsTo (file input : List ℕ) (answers : List Answer) (n : ℕ) (pro
   pub entry : ℕ
   pub segments : List Segment
   pub loads : Loads file entry segments
-  pub reaches : Reaches (IsStep (start_ranges segments)) n (start_run entry segments input answers) progress
+  pub reaches : ReachesIn (start_ranges segments) n (start_run entry segments input answers) progress

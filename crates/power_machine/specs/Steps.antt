@@ -37,6 +37,10 @@ pub record IsStep (ranges : List Range) (r : NumberRun) (next : Next NumberRun) 
   pub stands : IsNext ranges r.state code
   pub is : next ≡ step_over ranges r code
 
+-- the progress of a run after at most so many steps
+abbrev pub ReachesIn : List Range → ℕ → NumberRun → NumberProgress → Type 0
+ReachesIn ranges n r p = Reaches (IsStep ranges) n r p
+
 -- what the structs stand for
 abbrev pub run_of : Machine → World → NumberRun
 run_of m w = record { state = state_of m.core; input = drop w.taken w.input.items; answers = drop w.used w.answers.items; events = m.events.items; ended = m.ended }
@@ -66,7 +70,7 @@ pub record Made (ranges : List Range) (old new : NumberRun) (o : StepOutcome) : 
 
 -- the answer of a run of at most n steps
 abbrev pub RunAnswers : List Range → ℕ → NumberRun → NumberRun → Outcome → Type 0
-RunAnswers ranges n old new ending.Budget = Reaches (IsStep ranges) n old (Going new)
-RunAnswers ranges n old new (ending.Exited status) = Reaches (IsStep ranges) n old (Done status new)
-RunAnswers ranges n old new (ending.Left reason at) = Reaches (IsStep ranges) n old (Gone reason new) × (at ≡ new.state.at)
-RunAnswers ranges n old new ending.Memory = (k : ℕ) × (k < n) × Reaches (IsStep ranges) k old (Going new)
+RunAnswers ranges n old new ending.Budget = ReachesIn ranges n old (Going new)
+RunAnswers ranges n old new (ending.Exited status) = ReachesIn ranges n old (Done status new)
+RunAnswers ranges n old new (ending.Left reason at) = ReachesIn ranges n old (Gone reason new) × (at ≡ new.state.at)
+RunAnswers ranges n old new ending.Memory = (k : ℕ) × (k < n) × ReachesIn ranges k old (Going new)

@@ -3,8 +3,8 @@ ghost use Rattle.std.specs.Prelude.{◌≡◌, ◌+◌, ◌≤◌, ◌<◌, ◌-
 ghost use Rattle.power_insns.specs.Arithmetic.{bytes_of};
 ghost use Rattle.power_machine.specs.declared.memory.Purpose.TheVariants.{Loading, Storing};
 ghost use Rattle.power_machine.specs.Bytes.{spelled};
-ghost use Rattle.power_machine.specs.Memory.{permits, range_of, ranges_of, byte_at, bytes_from, put, allows, allows_range, within};
-ghost use Rattle.power_machine.specs.inside.Regions.{InOrder, IsPlace, place_of};
+ghost use Rattle.power_machine.specs.Memory.{permits, holds, range_of, ranges_of, byte_at, bytes_from, put, allows, allows_range, within};
+ghost use Rattle.power_machine.specs.inside.Regions.{BeginBy, InOrder, IsPlace, place_of};
 
 use crate::contents::{Contents, number_in};
 use power_insns::meaning::Width;
@@ -38,6 +38,17 @@ impl Region {
             Purpose::Fetching => self.executable,
         }
     }
+
+    // Whether so many bytes at an address lie in it and may be used.
+    fn holds(&self, purpose: Purpose, at: u64, count: u64) -> bool
+        ensures { result ≡ holds purpose at count (range_of self.now) }
+    {
+        let size = self.bytes.len() as u64;
+        self.start <= at
+            && at - self.start <= size
+            && count <= size - (at - self.start)
+            && self.permits(purpose)
+    }
 }
 
 /// The regions, in order of their addresses.
@@ -47,25 +58,47 @@ pub struct AddressSpace {
     ghost in_order: { InOrder regions.items },
 }
 
-// The region that holds so many bytes at an address.
-#[tactic(auto, using(crate::proofs::Places::place_found))]
-fn place(regions: &[Region], purpose: Purpose, at: u64, count: u64) -> Option<usize>
+// How many regions begin at or below an address.
+fn begun_by(regions: &[Region], at: u64) -> usize
     requires { InOrder regions.now }
+    ensures { BeginBy regions.now at result }
+{
+    let mut low = 0;
+    let mut high = regions.len();
+    while low < high {
+        let middle = low + (high - low) / 2;
+        if regions[middle].start <= at {
+            low = middle + 1;
+        } else {
+            high = middle;
+        }
+    }
+    low
+}
+
+// The region that holds so many bytes at an address: none but the last that begins there or below can.
+fn place(regions: &[Region], purpose: Purpose, at: u64, count: u64) -> Option<usize>
+    requires order { InOrder regions.now }
+    requires some { 0 < count }
     ensures value { result ≡ place_of purpose at count regions.now }
     ensures found { IfSome result (λ index. IsPlace purpose at count regions.now index) }
 {
-    regions.iter().position(|r| {
-        let size = r.bytes.len() as u64;
-        r.start <= at
-            && at - r.start <= size
-            && count <= size - (at - r.start)
-            && r.permits(purpose)
-    })
+    let begun = begun_by(regions, at);
+    if begun == 0 {
+        return None;
+    }
+    let last = begun - 1;
+    if regions[last].holds(purpose, at, count) {
+        Some(last)
+    } else {
+        None
+    }
 }
 
 impl AddressSpace {
     // Whether one region has so many bytes at an address for this use.
-    fn holds(&self, purpose: Purpose, at: u64, count: u64) -> bool
+    fn has(&self, purpose: Purpose, at: u64, count: u64) -> bool
+        requires { 0 < count }
         ensures { result ≡ allows purpose at count (ranges_of self.now.regions.items) }
     {
         place(&self.regions, purpose, at, count).is_some()
@@ -75,7 +108,7 @@ impl AddressSpace {
     pub fn allows(&self, purpose: Purpose, at: u64, count: u64) -> bool
         ensures { result ≡ allows_range (within (ranges_of self.now.regions.items)) purpose at count }
     {
-        count == 0 || self.holds(purpose, at, count)
+        count == 0 || self.has(purpose, at, count)
     }
 
     /// The number at an address, where it may be used.
@@ -92,7 +125,8 @@ impl AddressSpace {
 
     /// Puts bytes at an address, where a number of bytes may be stored there.
     pub fn write(&mut self, at: u64, room: u64, bytes: &[u8]) -> bool
-        requires { length bytes.now ≤ room }
+        requires some { 0 < room }
+        requires fits { length bytes.now ≤ room }
         ensures allowed { result ≡ allows Storing at room (ranges_of self.old.regions.items) }
         ensures ranges { ranges_of self.new.regions.items ≡ ranges_of self.old.regions.items }
         ensures stored { result ≡ true → byte_at self.new.regions.items ≡ put (byte_at self.old.regions.items) at bytes.now }
@@ -127,7 +161,8 @@ impl AddressSpace {
         room: u64,
         count: u64,
     ) -> Result<Option<Bytes>, AllocError>
-        requires { count ≤ room }
+        requires some { 0 < room }
+        requires fits { count ≤ room }
         ensures { IfOk result (λ bytes. bytes ≡ (if allows Loading at room (ranges_of self.now.regions.items) then Some (bytes_from (byte_at self.now.regions.items) at count) else None)) }
     {
         let Some(index) = place(&self.regions, Purpose::Loading, at, room) else {

@@ -2,8 +2,8 @@
 use Rattle.std.proofs.Common.{◌≡◌, ℕ, inl, inr, List, [], ◌∷◌, Option, Some, None, sym, ap, ◌∙◌, subst}
 use Rattle.elf64_exec.specs.laws.Faults.{no_fault, one_fault}
 use Rattle.power_machine.specs.Start.{start_ranges}
-use Rattle.power_machine.specs.Steps.{Reaches}
-use Rattle.power_machine.specs.Laws.{one_progress}
+use Rattle.power_machine.specs.Steps.{ReachesIn as Reaches}
+use Rattle.power_machine.specs.laws.Steps.{one_progress_in as one_progress}
 use Rattle.ppc_outside.specs.Outside.{Files}
 use Rattle.ppclink.specs.Requests.{Request, link_to, show_file, run_image, names_of}
 use Rattle.ppclink.specs.Printed.{Outcome, printed}

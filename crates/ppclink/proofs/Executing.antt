@@ -9,7 +9,8 @@ use Rattle.elf64_exec.specs.declared.layout.ExecFault.TheVariants.{Memory as NoR
 use Rattle.elf64_exec.specs.Loading.{HasFault, Loads}
 use Rattle.elf64_records.specs.First.{◌orelse◌}
 use Rattle.power_machine.specs.Start.{start_ranges}
-use Rattle.power_machine.specs.Steps.{Progress, Going, Done, Gone, Reaches}
+use Rattle.power_machine.specs.Runs.{Going, Done, Gone}
+use Rattle.power_machine.specs.Steps.{NumberProgress as Progress, ReachesIn as Reaches}
 use Rattle.ppc_bytes.specs.declared.memory.Memory.{Memory as NoMem}
 use Rattle.ppc_outside.specs.Outside.{Files, Lacks, last_count}
 use Rattle.ppc_outside.specs.declared.outside.OutsideError.{OutsideError}
@@ -31,7 +32,7 @@ use Rattle.ppclink.proofs.Linking.{same_told}
 run_status : (p : Progress) (status : ℕ) (text : List ℕ) → progress_outcome p ≡ printed status text → IsAnswered status
 run_status (Going r) status text is = subst IsAnswered (ap status_of is) (inr (inr refl))
 run_status (Done code r) status text is = subst IsAnswered (ap status_of is) (inl (omega arith))
-run_status (Gone reason at r) status text is = subst IsAnswered (ap status_of is) (inr (inl refl))
+run_status (Gone reason r) status text is = subst IsAnswered (ap status_of is) (inr (inl refl))
 
 -- a program that was run, and a file that is none
 pub program_answer : (name file input : List ℕ) (entry budget : ℕ) (segments : List Segment) (status : ℕ) (text : Vec ℕ Global) → Loads file entry segments → ((p : Progress) × Reaches (start_ranges segments) budget (start_run entry segments input) p × (progress_outcome p ≡ printed status text.items)) → AnswersProgram name file input budget (Printed status text)

@@ -11,9 +11,9 @@ use Rattle.power_machine.specs.declared.machine.Outcome.TheVariants as ending
 use Rattle.power_machine.specs.declared.world.World.{World}
 use Rattle.power_machine.specs.declared.world.Event.{Event}
 use Rattle.power_machine.specs.Memory.{Range}
-use Rattle.power_machine.specs.Calls.{Run}
 use Rattle.power_machine.specs.Start.{IsStart, start_ranges, start_state}
-use Rattle.power_machine.specs.Steps.{Progress, Going, Done, Gone, Reaches, RunAnswers, run_of, machine_ranges}
+use Rattle.power_machine.specs.Runs.{Going, Done, Gone}
+use Rattle.power_machine.specs.Steps.{NumberRun as Run, NumberProgress as Progress, ReachesIn as Reaches, RunAnswers, run_of, machine_ranges}
 use Rattle.ppclink.specs.Printed.{printed}
 use Rattle.ppclink.specs.Runs.{event_line, event_lines, exit_line, left_line, budget_line, Reports, progress_outcome, start_run}
 
@@ -32,7 +32,7 @@ reported : (ranges : List Range) (budget : ℕ) (old new : Run) (events : List E
 reported ranges budget old new events (ending.Exited code) status text same run is =
     (Done code new, run, ap (λ e. printed 0 (event_lines e ++ exit_line code)) same ∙ ap (printed 0) (sym is.1) ∙ ap (λ s. printed s text) (sym is.0))
 reported ranges budget old new events (ending.Left reason at) status text same run is =
-    (Gone reason at new, run, ap (λ e. printed 6 (event_lines e ++ left_line reason at)) same ∙ ap (printed 6) (sym is.1) ∙ ap (λ s. printed s text) (sym is.0))
+    (Gone reason new, run.0, ap (λ z. printed 6 (event_lines new.events ++ left_line reason z)) (sym run.1) ∙ ap (λ e. printed 6 (event_lines e ++ left_line reason at)) same ∙ ap (printed 6) (sym is.1) ∙ ap (λ s. printed s text) (sym is.0))
 reported ranges budget old new events ending.Budget status text same run is =
     (Going new, run, ap (λ e. printed 7 (event_lines e ++ budget_line)) same ∙ ap (printed 7) (sym is.1) ∙ ap (λ s. printed s text) (sym is.0))
 reported ranges budget old new events ending.Memory status text same run is = absurd is

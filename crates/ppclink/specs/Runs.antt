@@ -11,9 +11,9 @@ use Rattle.power_machine.specs.declared.reason.Reason.TheVariants as why
 use Rattle.power_machine.specs.declared.world.Event.{Event}
 use Rattle.power_machine.specs.declared.machine.Outcome.{Outcome as Ending}
 use Rattle.power_machine.specs.declared.machine.Outcome.TheVariants as ending
-use Rattle.power_machine.specs.Calls.{Run}
-use Rattle.power_machine.specs.Start.{start_state, start_ranges}
-use Rattle.power_machine.specs.Steps.{Progress, Going, Done, Gone, Reaches}
+use Rattle.power_machine.specs.Start.{start_ranges, start_run as start_in}
+use Rattle.power_machine.specs.Runs.{Going, Done, Gone}
+use Rattle.power_machine.specs.Steps.{NumberRun as Run, NumberProgress as Progress, ReachesIn as Reaches}
 use Rattle.elf64_records.specs.First.{◌orelse◌}
 use Rattle.ppclink.specs.Lines.{about}
 use Rattle.ppclink.specs.Printed.{Outcome, printed}
@@ -86,12 +86,12 @@ Reports events ending.Memory s text = ⊥
 -- what is printed of a run, and the status
 abbrev pub progress_outcome : Progress → Outcome
 progress_outcome (Done status r) = printed 0 (event_lines r.events ++ exit_line status)
-progress_outcome (Gone reason at r) = printed 6 (event_lines r.events ++ left_line reason at)
+progress_outcome (Gone reason r) = printed 6 (event_lines r.events ++ left_line reason r.state.at)
 progress_outcome (Going r) = printed 7 (event_lines r.events ++ budget_line)
 
 -- a program at its start, with this input and with no answers but whole ones
 abbrev pub start_run : ℕ → List Segment → List ℕ → Run
-start_run entry segments input = record { state = start_state entry segments; input = input; answers = []; events = []; ended = None }
+start_run entry segments input = start_in entry segments input []
 
 -- the file is an executable that comes to this in at most so many steps
 pub record RunsTo (file input : List ℕ) (budget : ℕ) (outcome : Outcome) : Type 0 where

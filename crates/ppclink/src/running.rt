@@ -3,7 +3,7 @@ ghost use Rattle.std.specs.Prelude.{◌≡◌, ◌≢◌, ◌≤◌, ◌<◌, So
 ghost use Rattle.std.specs.Option.{option_map};
 ghost use Rattle.elf64_exec.specs.Executable.{ArePlaced};
 ghost use Rattle.power_machine.specs.Start.{start_ranges};
-ghost use Rattle.power_machine.specs.Steps.{Progress, Reaches};
+ghost use Rattle.power_machine.specs.Steps.{NumberProgress as Progress, ReachesIn as Reaches};
 ghost use Rattle.ppclink.specs.Requests.{run_image};
 ghost use Rattle.ppclink.specs.Printed.{printed as printed_of};
 ghost use Rattle.ppclink.specs.Fetching.{HasRead};

@@ -10,6 +10,12 @@ pub record InOrder (regions : List Region) : Type 0 where
   pub low : (i : ℕ) (d : Region) → i < length regions → stop_of (slice_index_or regions i d) ≤ 0x80000000
   pub apart : (i j : ℕ) (d : Region) → i < j → j < length regions → stop_of (slice_index_or regions i d) ≤ (slice_index_or regions j d).start
 
+-- so many regions, those in front, begin at or below an address, and the others behind it
+pub record BeginBy (regions : List Region) (at count : ℕ) : Type 0 where
+  pub within : count ≤ length regions
+  pub begun : (i : ℕ) (d : Region) → i < count → (slice_index_or regions i d).start ≤ at
+  pub ahead : (i : ℕ) (d : Region) → count ≤ i → i < length regions → at < (slice_index_or regions i d).start
+
 -- the first region that holds so many bytes at an address
 abbrev pub place_of : Purpose → ℕ → ℕ → List Region → Option ℕ
 place_of purpose at count regions = position (λ r. holds purpose at count (range_of r)) regions

@@ -12,8 +12,8 @@ use Rattle.power_machine.specs.Memory.{Range, within}
 use Rattle.power_machine.specs.Codes.{Stands}
 use Rattle.power_machine.specs.Machines.{Next, Went, state_after}
 use Rattle.power_machine.specs.Numbers.{numbers}
-use Rattle.power_machine.specs.Runs.{StepsFrom, Steps, Grows, Reaches}
-use Rattle.power_machine.specs.Steps.{NumberRun, NumberProgress, IsStep, step_over}
+use Rattle.power_machine.specs.Runs.{StepsFrom, Steps, Grows}
+use Rattle.power_machine.specs.Steps.{NumberRun, NumberProgress, IsStep, ReachesIn, step_over}
 use Rattle.power_machine.specs.Start.{start_ranges, start_run, RunsTo}
 use Rattle.power_machine.specs.laws.Runs.{StepsOnce, one_progress, GrowsBy, no_more, operates_grows}
 
@@ -56,11 +56,15 @@ from_grows ranges r None n h = subst (GrowsBy r) (sym h.is) (code_grows ranges r
 pub steps_grow : (ranges : List Range) (r : NumberRun) (n : Next NumberRun) → Steps (IsStep ranges) r n → Grows r.events (state_after n r).events
 steps_grow ranges r n h = from_grows ranges r r.ended n h
 
+-- one progress after at most so many steps
+pub one_progress_in : (ranges : List Range) (n : ℕ) (r : NumberRun) (p p' : NumberProgress) → ReachesIn ranges n r p → ReachesIn ranges n r p' → p ≡ p'
+one_progress_in ranges n r p p' h k = one_progress (IsStep ranges) (steps_once ranges) n r p p' h k
+
 -- An executable comes to one progress in at most so many steps.
 pub one_run : (file input : List ℕ) (answers : List Answer) (n : ℕ) (p p' : NumberProgress) → RunsTo file input answers n p → RunsTo file input answers n p' → p ≡ p'
 one_run file input answers n p p' a b =
     let entries : a.entry ≡ b.entry = a.loads.entry_is ∙ sym b.loads.entry_is in
     let lists : a.segments ≡ b.segments = a.loads.segments_are ∙ sym b.loads.segments_are in
-    let Here = λ (entry : ℕ) (segments : List Segment). Reaches (IsStep (start_ranges segments)) n (start_run entry segments input answers) p in
+    let Here = λ (entry : ℕ) (segments : List Segment). ReachesIn (start_ranges segments) n (start_run entry segments input answers) p in
     let here : Here b.entry b.segments = subst (λ l. Here b.entry l) lists (subst (λ e. Here e a.segments) entries a.reaches) in
-    one_progress (IsStep (start_ranges b.segments)) (steps_once (start_ranges b.segments)) n (start_run b.entry b.segments input answers) p p' here b.reaches
+    one_progress_in (start_ranges b.segments) n (start_run b.entry b.segments input answers) p p' here b.reaches
