@@ -4,17 +4,21 @@
 #![tactic(auto)]
 
 mod files;
+mod places;
 mod refusal;
 mod sections;
 mod set;
 mod sort;
 mod symbol_readers;
 mod symbols;
+mod walk;
 
 pub use files::FileBytes;
+pub use places::{RecordId, SectionId, SymbolId};
 pub use refusal::{Refusal, Site};
 pub use set::{ObjectSet, refusal_of};
 pub use sort::Sort;
+pub use walk::{Records, Sections, Symbols};
 
 #[cfg(test)]
 mod tests;

@@ -1,7 +1,7 @@
 -- A walk over numbers that looks for the first fault.
-use Rattle.std.proofs.Common.{◌≡◌, ℕ, zero, suc, ◌+◌, ◌-◌, ◌<◌, ◌≤◌, inl, inr, Option, Some, None, sym, ap, ◌∙◌, refl, arith}
+use Rattle.std.proofs.Common.{◌≡◌, ℕ, zero, suc, ◌+◌, ◌-◌, ◌<◌, ◌≤◌, inl, inr, List, [], ◌∷◌, Option, Some, None, sym, ap, ◌∙◌, refl, arith}
 use Rattle.std.proofs.lemmas.Bool.{cases_lt}
-use Rattle.elf64_records.specs.First.{◌orelse◌, first_from}
+use Rattle.elf64_records.specs.First.{◌orelse◌, first_from, first_in}
 
 -- where there is no first of two, both pass
 pub both_none : {R : Type 0} (o p : Option R) → o orelse p ≡ None → (o ≡ None) × (p ≡ None)
@@ -40,3 +40,18 @@ module _ {R : Type 0} (f : ℕ → Option R) where
         | inl less ↦ walk_none (start + 1) count k both.1 (omega arith) (omega arith)
         | inr most ↦ (let same : start ≡ k = omega arith in ap f (sym same) ∙ both.0)
       ]
+
+-- the same over a list, from its front
+module _ {X R : Type 0} (f : X → Option R) where
+  list_case : (xs rest : List X) (x : X) → xs ≡ x ∷ rest → first_in f xs ≡ f x orelse first_in f rest
+  list_case xs rest x is = ap (first_in f) is
+
+  -- an element passes: what is left is the rest
+  pub list_passes : (xs rest : List X) (x : X) (all : Option R) → first_in f xs ≡ all → xs ≡ x ∷ rest → f x ≡ None → first_in f rest ≡ all
+  list_passes xs rest x all so_far is passes =
+      sym (ap (λ o. o orelse first_in f rest) passes) ∙ sym (list_case xs rest x is) ∙ so_far
+
+  -- an element doesn't: its fault is the first
+  pub list_stops : (xs rest : List X) (x : X) (all : Option R) (r : R) → first_in f xs ≡ all → xs ≡ x ∷ rest → f x ≡ Some r → all ≡ Some r
+  list_stops xs rest x all r so_far is stops =
+      sym so_far ∙ list_case xs rest x is ∙ ap (λ o. o orelse first_in f rest) stops
