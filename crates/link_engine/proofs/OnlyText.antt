@@ -16,9 +16,11 @@ use Rattle.object_set.specs.Refusals.{length_refusal, fault_refusal, sections_re
 use Rattle.object_set.specs.laws.Fit.{file_fit, section_fit}
 use Rattle.symbol_table.specs.declared.target.CodePlace.{CodePlace}
 use Rattle.symbol_table.specs.Text.{text_sections}
-use Rattle.symbol_table.specs.Claims.{duplicate_refusal}
+use Rattle.symbol_table.specs.Candidates.{duplicate_refusal}
 use Rattle.symbol_table.specs.Targets.{entry_place, entry_refusal, resolve_refusal}
-use Rattle.symbol_table.specs.Laws.{text_at_place, text_place_within, IsInstructionAt, entry_instruction}
+use Rattle.symbol_table.specs.Resolved.{ResolvedFiles}
+use Rattle.symbol_table.specs.laws.Text.{text_index_found, text_index_within}
+use Rattle.symbol_table.specs.laws.Targets.{IsInstructionAt, entry_instruction}
 use Rattle.link_engine.specs.Stage.{first_kept, is_at, section_not_built, symbol_not_built, not_built_at, not_built, IsEntered}
 
 -- a section that needs no more and is text is the first that is kept
@@ -108,8 +110,8 @@ pub only_text : (set : List (List ℕ)) (place place' : CodePlace) (file section
 only_text set place place' file section at whole built inside same found =
     let lies = inside.lies in
     let numbered : slice_get (text_sections set) place'.section ≡ Some (file, section) =
-    ap (λ (p : CodePlace). slice_get (text_sections set) p.section) same ∙ ap (slice_get (text_sections set)) (sym lies.place)
-    ∙ text_at_place set file section lies.file_in lies.within lies.text in
+    ap (λ (p : CodePlace). slice_get (text_sections set) p.section) same ∙ ap (slice_get (text_sections set)) (sym lies.index)
+    ∙ text_index_found set file section lies.file_in lies.within lies.text in
     let this : (file, section) ≡ at = some_same (sym numbered ∙ found) in
     subst (IsOnlyText set place.offset) this (only_place set place file section whole built inside)
 
@@ -117,18 +119,18 @@ only_text set place place' file section at whole built inside same found =
 pub numbered : (set : List (List ℕ)) (place place' : CodePlace) (file section : ℕ) → IsInstructionAt set place file section → place' ≡ place → place'.section < length (text_sections set)
 numbered set place place' file section inside same =
     let lies = inside.lies in
-    let below = text_place_within set file section lies.file_in lies.within lies.text in
+    let below = text_index_within set file section lies.file_in lies.within lies.text in
     let here : place'.section ≡ place.section = ap (λ (p : CodePlace). p.section) same in
-    omega (arith, below, here, lies.place)
+    omega (arith, below, here, lies.index)
 
 -- the bytes of that section, as they were read
 pub bytes_are : (set set' : List (List ℕ)) (at : ℕ × ℕ) (b text : List ℕ) → set' ≡ set → b ≡ file_at set' at.0 → text ≡ section_bytes b at.1 → text ≡ section_bytes (file_at set at.0) at.1
 bytes_are set set' at b text same view is = is ∙ ap (λ (f : List ℕ). section_bytes f at.1) (view ∙ ap (λ (s : List (List ℕ)). file_at s at.0) same)
 
 -- where files that aren't refused are entered
-pub entered : (set contents : List (List ℕ)) (entry : List ℕ) (r : List (List ℕ) × CodePlace) → set ≡ contents → set_refusal contents ≡ None → resolve_refusal set entry ≡ None →
-    r.0 ≡ set → r.1 ≡ entry_place set entry → IsEntered r.0 r.1
+pub entered : (set contents : List (List ℕ)) (entry : List ℕ) (r : ResolvedFiles) → set ≡ contents → set_refusal contents ≡ None → resolve_refusal set entry ≡ None →
+    r.files ≡ set → r.entry ≡ entry_place set entry → IsEntered r.files r.entry
 entered set contents entry r same whole resolved is place =
     let passes = (both_none (duplicate_refusal set) (entry_refusal set entry) resolved).1 in
     let inside = entry_instruction set entry (ap set_refusal same ∙ whole) passes in
-    subst (λ (s : List (List ℕ)). IsEntered s r.1) (sym is) (subst (IsEntered set) (sym place) inside)
+    subst (λ (s : List (List ℕ)). IsEntered s r.entry) (sym is) (subst (IsEntered set) (sym place) inside)

@@ -10,7 +10,7 @@ use Rattle.object_set.specs.Files.{file_at}
 use Rattle.object_set.specs.Sections.{sort_of, is_kept_sort, is_text}
 use Rattle.object_set.specs.Symbols.{is_common}
 use Rattle.symbol_table.specs.declared.target.CodePlace.{CodePlace}
-use Rattle.symbol_table.specs.Laws.{IsInstructionAt}
+use Rattle.symbol_table.specs.laws.Targets.{IsInstructionAt}
 use Rattle.object_set.specs.declared.refusal.Refusal.{Refusal}
 use Rattle.object_set.specs.declared.refusal.Refusal.TheVariants.{NotBuilt}
 

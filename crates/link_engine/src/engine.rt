@@ -39,11 +39,11 @@ fn image(alloc: Global, start: u64, text: &[u8]) -> Result<Vec<u8>, Memory>
 
 /// The bytes of the only kept section, in which the files are entered.
 fn only_text<'a>(resolved: &Resolved<'a, '_>) -> &'a [u8]
-    requires whole { set_refusal resolved.now.0 ≡ None }
-    requires built { not_built resolved.now.0 ≡ None }
-    requires entered { IsEntered resolved.now.0 resolved.now.1 }
-    ensures text { result.now ≡ text_of resolved.now.0 }
-    ensures below { resolved.now.1.offset < length result.now }
+    requires whole { set_refusal resolved.now.files ≡ None }
+    requires built { not_built resolved.now.files ≡ None }
+    requires entered { IsEntered resolved.now.files resolved.now.entry }
+    ensures text { result.now ≡ text_of resolved.now.files }
+    ensures below { resolved.now.entry.offset < length result.now }
     ensures limit { length result.now ≤ 0x10000000 }
 {
     let (file, section) = resolved.text_of(resolved.entry().section);

@@ -5,7 +5,7 @@ use Rattle.std.proofs.Common.{cond, not, ◌+◌}
 use Rattle.std.specs.Str.{bytes_eq}
 use Rattle.std.proofs.lemmas.Slice.Eq.{bytes_eq-Decides}
 use Rattle.std.proofs.lemmas.Option.{slice_get_within}
-use Rattle.symbol_table.specs.Names.{with_name}
+use Rattle.symbol_table.specs.Externals.{with_name}
 use Rattle.symbol_table.proofs.Keys.{same_bytes}
 
 -- each name stands once

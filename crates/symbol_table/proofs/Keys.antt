@@ -8,7 +8,8 @@ use Rattle.std.proofs.lemmas.List.Quantifiers.{position-Some}
 use Rattle.std.specs.Str.{bytes_eq}
 use Rattle.std.proofs.lemmas.Slice.Eq.{bytes_eq-Decides}
 use Rattle.indexmap.specs.IndexSet.{insert_key}
-use Rattle.symbol_table.specs.Names.{with_name, named}
+use Rattle.symbol_table.specs.Externals.{with_name}
+use Rattle.symbol_table.specs.inside.Keys.{named}
 
 -- keys by the names to which they refer
 abbrev pub same_name : Bor (List ℕ) → Bor (List ℕ) → Bool

@@ -1,7 +1,8 @@
+pub mod Items
 pub mod Keys
 pub mod Distinct
 pub mod Steps
-pub mod Tables
+pub mod NameTables
 pub mod Numbers
 pub mod Texts
-pub mod Shares
+pub mod NumberedCommons

@@ -1,7 +1,7 @@
-pub mod Names
-pub mod Known
-pub mod Claims
+pub mod Externals
+pub mod Candidates
 pub mod Text
 pub mod Targets
-pub mod Definitions
-pub mod Laws
+pub mod Resolved
+pub mod laws
+pub mod inside

@@ -1,34 +1,39 @@
 // The commons, numbered in first-seen order of their names.
-ghost use Rattle.std.specs.Prelude.{◌≡◌, ◌++◌, IfOk, OnOk, length};
-ghost use Rattle.symbol_table.specs.Claims.{stand_of};
-ghost use Rattle.symbol_table.specs.Targets.{shared, shared_before, common_at, AreShares};
+ghost use Rattle.std.specs.Prelude.{◌≡◌, ◌++◌, IfOk, OnOk};
+ghost use Rattle.symbol_table.specs.Candidates.{resolution_of, common_in};
+ghost use Rattle.symbol_table.specs.inside.Commons.{common_list, AreCommons};
 
-use crate::claims::{Claims, Stand};
+use crate::candidates::{Candidates, Resolution};
+use crate::ids::CommonSize;
 use std::alloc::{AllocError, Global};
 
+/// The commons in first-seen order of their names, and for each name how many commons stand before it.
+#[derive(Drop)]
+pub struct Commons {
+    pub sizes: Vec<CommonSize>,
+    pub numbers: Vec<u64>,
+}
+
 /// Puts the common of a name behind others, where the name stands for one.
-fn take_common(commons: &mut Vec<(u64, u64)>, claims: Claims) -> Result<(), AllocError>
-    ensures { OnOk result (commons.new.items ≡ commons.old.items ++ common_at (shared (stand_of claims))) }
+fn push_common(sizes: &mut Vec<CommonSize>, candidates: Candidates) -> Result<(), AllocError>
+    ensures { OnOk result (
+        sizes.new.items ≡ sizes.old.items ++ common_list (common_in (resolution_of candidates))) }
 {
-    if let Stand::Common(size, align) = claims.stand() {
-        commons.push((size, align))?;
+    if let Resolution::Common(common) = candidates.resolution() {
+        sizes.push(common)?;
     }
     Ok(())
 }
 
-/// The size and alignment of each common, and how many commons stand before each name.
-pub fn number_commons(
-    alloc: Global,
-    claims: &[Claims],
-) -> Result<(Vec<(u64, u64)>, Vec<u64>), AllocError>
-    ensures commons { IfOk result (λ r. r.0.items ≡ shared_before claims.now (length claims.now)) }
-    ensures shares { IfOk result (λ r. AreShares claims.now (length claims.now) r.1.items) }
+/// The commons of names of which so much is said.
+pub fn commons_of(alloc: Global, candidates: &[Candidates]) -> Result<Commons, AllocError>
+    ensures { IfOk result (AreCommons candidates.now) }
 {
-    let mut commons = Vec::new(alloc);
-    let mut shares = Vec::new(alloc);
-    for (i, claim) in claims.iter().enumerate() {
-        shares.push(commons.len() as u64)?;
-        take_common(&mut commons, *claim)?;
+    let mut sizes = Vec::new(alloc);
+    let mut numbers = Vec::new(alloc);
+    for (i, candidate) in candidates.iter().enumerate() {
+        numbers.push(sizes.len() as u64)?;
+        push_common(&mut sizes, *candidate)?;
     }
-    Ok((commons, shares))
+    Ok(Commons { sizes, numbers })
 }

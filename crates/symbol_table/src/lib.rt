@@ -2,10 +2,13 @@
 // Table"), which place a relocation record goes to, and where the program is entered. Names are compared as bytes.
 #![tactic(auto)]
 
-mod claims;
+mod candidates;
 mod commons;
+mod definition;
 mod entry;
+mod ids;
 mod names;
+mod resolutions;
 mod resolved;
 mod role;
 mod table;

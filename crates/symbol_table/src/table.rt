@@ -3,77 +3,79 @@ ghost use Rattle.std.specs.Prelude.{false, ◌<◌, ◌≡◌, List, ◌∷◌, 
 ghost use Rattle.elf64_records.specs.Symbols.{symbol_count};
 ghost use Rattle.object_set.specs.Files.{file_at};
 ghost use Rattle.object_set.specs.Refusals.{set_refusal, Answers};
-ghost use Rattle.object_set.specs.Symbols.{is_local, name_of};
-ghost use Rattle.symbol_table.specs.Known.{KnownSymbol, seen, known_in, Grows, AreNumbers, AreAllNumbers, known_symbols, names_of};
-ghost use Rattle.symbol_table.specs.Targets.{all_claims, common_number, AreShares};
-ghost use Rattle.symbol_table.specs.Names.{with_name};
-ghost use Rattle.symbol_table.specs.Claims.{table_of, claims_of, facts_of, unclaimed, duplicate_at, duplicates};
+ghost use Rattle.object_set.specs.Symbols.{is_local};
+ghost use Rattle.symbol_table.specs.Externals.{External, external_symbol, external_at, externals_in, external_symbols, names_of, with_name};
+ghost use Rattle.symbol_table.specs.Candidates.{names_seen, candidates_of, duplicate_at, first_duplicate};
+ghost use Rattle.symbol_table.specs.inside.Names.{IsPaired, SeesMore, HasNumber, KeepsNumbers, AreFileNumbers, AreAllNameNumbers, candidates_of_new, external_of};
 
-use crate::claims::Claims;
-use crate::names::{Names, owned};
-use crate::role::{Known, is_local, role_of};
+use crate::candidates::Candidates;
+use crate::names::{NameIndex, owned};
+use crate::role::{ExternalSymbol, role_of};
 use object_set::{ObjectSet, Refusal};
 use std::alloc::{AllocError, Global};
 use std::marker::Model;
 
 /// Names in the order in which they are first seen, and what is said of each.
 #[derive(Drop)]
-pub struct Table<'a> {
-    names: Names<'a>,
-    claims: Vec<Claims>,
+pub struct NameTable<'a> {
+    names: NameIndex<'a>,
+    candidates: Vec<Candidates>,
 }
 
-impl<'a> Model for Table<'a> {
-    ghost use Rattle.std.specs.Prelude.{ℕ, List};
-    ghost use Rattle.symbol_table.specs.declared.claims.Claims.{Claims};
+impl<'a> Model for NameTable<'a> {
+    ghost use Rattle.symbol_table.specs.Candidates.{NamesSeen};
 
-    ghost Value = { List (List ℕ) × List Claims };
+    ghost Value = { NamesSeen };
 
-    ghost view = { λ t. (t.names, t.claims.items) };
+    ghost view = { λ t. record { names = t.names; candidates = t.candidates.items } };
 }
 
-impl<'a> Table<'a> {
+impl<'a> NameTable<'a> {
     /// No names.
     pub fn new(alloc: Global) -> Self
-        ensures { result ≡ table_of [] }
+        ensures { result ≡ names_seen [] }
     {
-        Table {
-            names: Names::new(alloc),
-            claims: Vec::new(alloc),
+        NameTable {
+            names: NameIndex::new(alloc),
+            candidates: Vec::new(alloc),
         }
     }
 
     /// What is said of a name.
-    pub fn claims(&self, name: &[u8]) -> Claims
-        requires { length self.now.1 ≡ length self.now.0 }
-        ensures { (symbols : List KnownSymbol) → self.now ≡ table_of symbols → result ≡ claims_of symbols name.now }
+    pub fn candidates(&self, name: &[u8]) -> Candidates
+        requires { IsPaired self.now }
+        ensures { (symbols : List External) →
+            self.now ≡ names_seen symbols → result ≡ candidates_of symbols name.now }
     {
-        match self.names.find(name) {
-            Some(number) => self.claims[number],
-            None => Claims::none(),
+        match self.names.number_of(name) {
+            Some(number) => self.candidates[number],
+            None => Candidates::none(),
         }
     }
 
     /// What is said of each name.
-    pub fn into_claims(self) -> Vec<Claims>
-        ensures { result.items ≡ self.entry.1 }
+    pub fn into_candidates(self) -> Vec<Candidates>
+        ensures { result.items ≡ self.entry.candidates }
     {
-        let Table { names: _, claims } = self;
-        claims
+        let NameTable {
+            names: _,
+            candidates,
+        } = self;
+        candidates
     }
 
     /// Refuses name `i` where it has two GLOBAL definitions.
-    #[tactic(auto, using(crate::proofs::Numbers::read_at), unfolding(crate::specs::Claims::duplicate_at))]
+    #[tactic(auto, using(crate::proofs::Numbers::read_at), unfolding(crate::specs::Candidates::duplicate_at))]
     fn check_name(&self, alloc: Global, i: usize) -> Result<(), Refusal>
-        requires same_length { length self.now.1 ≡ length self.now.0 }
-        requires within { i < length self.now.0 }
+        requires paired { IsPaired self.now }
+        requires within { i < length self.now.names }
         ensures { Answers result (duplicate_at self.now i) }
     {
-        let claims = self.claims[i];
-        match (claims.global, claims.second) {
-            (Some((first, _)), Some(second)) => {
+        let candidates = self.candidates[i];
+        match (candidates.global, candidates.second) {
+            (Some(first), Some(second)) => {
                 let name = owned(alloc, self.names.get(i))?;
-                Err(Refusal::Duplicate(name, first, second))
+                Err(Refusal::Duplicate(name, first.file, second))
             }
             _ => Ok(()),
         }
@@ -82,52 +84,55 @@ impl<'a> Table<'a> {
     /// Refuses the first name that has two GLOBAL definitions.
     #[tactic(auto, using(elf64_records::specs::laws::First::walk_step))]
     pub fn check_names(&self, alloc: Global) -> Result<(), Refusal>
-        requires { length self.now.1 ≡ length self.now.0 }
-        ensures { Answers result (duplicates self.now) }
+        requires { IsPaired self.now }
+        ensures { Answers result (first_duplicate self.now) }
     {
-        for i in 0..self.claims.len() {
+        for i in 0..self.candidates.len() {
             self.check_name(alloc, i)?;
         }
         Ok(())
     }
 
     /// The number of a name, of which nothing is said where it is new.
-    fn number(&mut self, name: &'a [u8]) -> Result<usize, AllocError>
-        requires { length self.old.1 ≡ length self.old.0 }
-        ensures names { OnOk result (self.new.0 ≡ with_name self.old.0 name.now) }
-        ensures claims { OnOk result (self.new.1 ≡ self.old.1 ++ unclaimed self.old.0 name.now) }
-        ensures number { IfOk result (λ k. slice_get self.new.0 k ≡ Some name.now) }
-        ensures same_length { OnOk result (length self.new.1 ≡ length self.new.0) }
+    fn add_name(&mut self, name: &'a [u8]) -> Result<usize, AllocError>
+        requires { IsPaired self.old }
+        ensures names { OnOk result (self.new.names ≡ with_name self.old.names name.now) }
+        ensures candidates { OnOk result (self.new.candidates
+            ≡ self.old.candidates ++ candidates_of_new self.old.names name.now) }
+        ensures number { IfOk result (λ k. slice_get self.new.names k ≡ Some name.now) }
+        ensures paired { OnOk result (IsPaired self.new) }
     {
-        let number = self.names.number(name)?;
-        if number == self.claims.len() {
-            self.claims.push(Claims::none())?;
+        let number = self.names.add(name)?;
+        if number == self.candidates.len() {
+            self.candidates.push(Candidates::none())?;
         }
         Ok(number)
     }
 
     /// Takes in a symbol, and gives the number of its name.
-    pub fn add(&mut self, symbol: Known<'a>) -> Result<usize, AllocError>
-        requires { length self.old.1 ≡ length self.old.0 }
-        ensures table { OnOk result ((symbols : List KnownSymbol) → self.old ≡ table_of symbols → self.new ≡ table_of (symbols ++ facts_of symbol.entry ∷ [])) }
-        ensures names { OnOk result (self.new.0 ≡ with_name self.old.0 symbol.entry.name.now) }
-        ensures number { IfOk result (λ k. slice_get self.new.0 k ≡ Some symbol.entry.name.now) }
-        ensures same_length { OnOk result (length self.new.1 ≡ length self.new.0) }
+    fn add_symbol(&mut self, symbol: ExternalSymbol<'a>) -> Result<usize, AllocError>
+        requires { IsPaired self.old }
+        ensures seen { OnOk result (SeesMore self.old self.new (external_of symbol.entry ∷ [])) }
+        ensures names { OnOk result (
+            self.new.names ≡ with_name self.old.names symbol.entry.name.now) }
+        ensures number { IfOk result (λ k.
+            slice_get self.new.names k ≡ Some symbol.entry.name.now) }
+        ensures paired { OnOk result (IsPaired self.new) }
     {
-        let number = self.number(symbol.name)?;
-        let claims = self.claims[number].with(symbol);
-        self.claims[number] = claims;
+        let number = self.add_name(symbol.name)?;
+        let candidates = self.candidates[number].with(symbol);
+        self.candidates[number] = candidates;
         Ok(number)
     }
 }
 
 /// The numbers of the names of a file's symbols, which contracts see as their list.
 #[derive(Drop)]
-pub struct Numbers {
+pub struct NameNumbers {
     items: Vec<usize>,
 }
 
-impl Model for Numbers {
+impl Model for NameNumbers {
     ghost use Rattle.std.specs.Prelude.{ℕ, List};
 
     ghost Value = { List ℕ };
@@ -135,81 +140,9 @@ impl Model for Numbers {
     ghost view = { λ n. n.items.items };
 }
 
-/// Takes in symbol `j` of a file, where other files see it, and gives the number of its name.
-fn add_symbol<'a>(
-    table: &mut Table<'a>,
-    set: &ObjectSet<'a>,
-    file: u32,
-    j: u32,
-) -> Result<usize, AllocError>
-    requires whole { set_refusal set.now ≡ None }
-    requires same_length { length table.old.1 ≡ length table.old.0 }
-    requires file { file < length set.now }
-    requires within { j < symbol_count (file_at set.now file) }
-    ensures table { OnOk result ((symbols : List KnownSymbol) → table.old ≡ table_of symbols → table.new ≡ table_of (symbols ++ seen file (file_at set.now file) j)) }
-    ensures grows { OnOk result (Grows table.old.0 table.new.0) }
-    ensures number { IfOk result (λ k. is_local (file_at set.now file) j ≡ false → slice_get table.new.0 k ≡ Some (name_of (file_at set.now file) j)) }
-    ensures same_length { OnOk result (length table.new.1 ≡ length table.new.0) }
-{
-    let view = set.view(file);
-    if is_local(view, j) {
-        return Ok(0);
-    }
-    let symbol = view.symbol(j);
-    table.add(Known {
-        name: symbol.name,
-        role: role_of(set, file, j),
-        file,
-        number: j,
-        size: symbol.size,
-        value: symbol.value,
-    })
-}
-
-/// Takes in the symbols of a file, and gives the numbers of their names.
-fn add_file<'a>(
-    alloc: Global,
-    table: &mut Table<'a>,
-    set: &ObjectSet<'a>,
-    file: u32,
-) -> Result<Numbers, AllocError>
-    requires whole { set_refusal set.now ≡ None }
-    requires same_length { length table.old.1 ≡ length table.old.0 }
-    requires file { file < length set.now }
-    ensures table { OnOk result ((symbols : List KnownSymbol) → table.old ≡ table_of symbols → table.new ≡ table_of (symbols ++ known_in file (file_at set.now file) (symbol_count (file_at set.now file)))) }
-    ensures grows { OnOk result (Grows table.old.0 table.new.0) }
-    ensures numbers { IfOk result (AreNumbers table.new.0 (file_at set.now file) (symbol_count (file_at set.now file))) }
-    ensures same_length { OnOk result (length table.new.1 ≡ length table.new.0) }
-{
-    let mut items = Vec::new(alloc);
-    for j in 0..set.view(file).symbol_count() {
-        let number = add_symbol(table, set, file, j)?;
-        items.push(number)?;
-    }
-    Ok(Numbers { items })
-}
-
-/// What the symbols of all files say of their names, and for each file the numbers of these.
-pub fn tabulate<'a>(
-    alloc: Global,
-    set: &ObjectSet<'a>,
-) -> Result<(Table<'a>, Vec<Numbers>), AllocError>
-    ensures table { IfOk result (λ r. r.0 ≡ table_of (known_symbols set.now)) }
-    ensures whole { IfOk result (λ r. set_refusal set.now ≡ None) }
-    ensures numbers { IfOk result (λ r. AreAllNumbers (names_of (known_symbols set.now)) set.now (length set.now) r.1.items) }
-{
-    let mut table = Table::new(alloc);
-    let mut numbers = Vec::new(alloc);
-    for file in 0..set.file_count() {
-        let row = add_file(alloc, &mut table, set, file)?;
-        numbers.push(row)?;
-    }
-    Ok((table, numbers))
-}
-
-impl Numbers {
+impl NameNumbers {
     /// The number of the name of a symbol.
-    fn of(&self, j: u32) -> usize
+    pub fn of_symbol(&self, j: u32) -> usize
         requires { j < length self.now }
         ensures { result ≡ slice_index self.now j }
     {
@@ -217,45 +150,84 @@ impl Numbers {
     }
 }
 
-/// The number of the name of a symbol that other files see.
-pub fn name_number(set: &ObjectSet, numbers: &[Numbers], file: u32, j: u32) -> usize
-    requires numbers { AreAllNumbers (names_of (known_symbols set.now)) set.now (length set.now) numbers.now }
+/// Symbol `j` of a file, which other files see.
+fn external_symbol<'a>(set: &ObjectSet<'a>, file: u32, j: u32) -> ExternalSymbol<'a>
     requires file { file < length set.now }
     requires within { j < symbol_count (file_at set.now file) }
-    requires known { is_local (file_at set.now file) j ≡ false }
-    ensures { slice_get (names_of (known_symbols set.now)) result ≡ Some (name_of (file_at set.now file) j) }
+    requires external { is_local (file_at set.now file) j ≡ false }
+    ensures { external_of result ≡ external_symbol file (file_at set.now file) j }
 {
-    numbers[file as usize].of(j)
+    let symbol = set.view(file).symbol(j);
+    ExternalSymbol {
+        name: symbol.name,
+        role: role_of(set, file, j),
+        file,
+        number: j,
+        size: symbol.size,
+        value: symbol.value,
+    }
 }
 
-/// What is said of the name of a symbol that other files see.
-pub fn claims_at(
-    set: &ObjectSet,
-    numbers: &[Numbers],
-    claims: &[Claims],
+/// Takes in symbol `j` of a file, where other files see it, and gives the number of its name.
+fn read_symbol<'a>(
+    table: &mut NameTable<'a>,
+    set: &ObjectSet<'a>,
     file: u32,
     j: u32,
-) -> Claims
-    requires numbers { AreAllNumbers (names_of (known_symbols set.now)) set.now (length set.now) numbers.now }
-    requires claims { claims.now ≡ all_claims set.now }
+) -> Result<usize, AllocError>
+    requires paired { IsPaired table.old }
     requires file { file < length set.now }
     requires within { j < symbol_count (file_at set.now file) }
-    requires known { is_local (file_at set.now file) j ≡ false }
-    ensures { result ≡ claims_of (known_symbols set.now) (name_of (file_at set.now file) j) }
+    ensures seen { OnOk result (
+        SeesMore table.old table.new (external_at file (file_at set.now file) j)) }
+    ensures keeps { OnOk result (KeepsNumbers table.old.names table.new.names) }
+    ensures number { IfOk result (HasNumber table.new.names (file_at set.now file) j) }
+    ensures paired { OnOk result (IsPaired table.new) }
 {
-    let number = name_number(set, numbers, file, j);
-    claims[number]
+    if set.is_local(file, j) {
+        return Ok(0);
+    }
+    table.add_symbol(external_symbol(set, file, j))
 }
 
-/// The number of the common of the name of a symbol that other files see: how many names before it stand for a common.
-pub fn common_number(set: &ObjectSet, numbers: &[Numbers], shares: &[u64], file: u32, j: u32) -> u64
-    requires numbers { AreAllNumbers (names_of (known_symbols set.now)) set.now (length set.now) numbers.now }
-    requires shares { AreShares (all_claims set.now) (length (all_claims set.now)) shares.now }
+/// Takes in the symbols of a file, and gives the numbers of their names.
+fn read_file<'a>(
+    alloc: Global,
+    table: &mut NameTable<'a>,
+    set: &ObjectSet<'a>,
+    file: u32,
+) -> Result<NameNumbers, AllocError>
+    requires paired { IsPaired table.old }
     requires file { file < length set.now }
-    requires within { j < symbol_count (file_at set.now file) }
-    requires known { is_local (file_at set.now file) j ≡ false }
-    ensures { result ≡ common_number set.now (name_of (file_at set.now file) j) }
+    ensures seen { let b = file_at set.now file in OnOk result (
+        SeesMore table.old table.new (externals_in file b (symbol_count b))) }
+    ensures keeps { OnOk result (KeepsNumbers table.old.names table.new.names) }
+    ensures numbers { IfOk result (AreFileNumbers table.new.names set.now file) }
+    ensures paired { OnOk result (IsPaired table.new) }
 {
-    let number = name_number(set, numbers, file, j);
-    shares[number]
+    let mut items = Vec::new(alloc);
+    for j in 0..set.view(file).symbol_count() {
+        let number = read_symbol(table, set, file, j)?;
+        items.push(number)?;
+    }
+    Ok(NameNumbers { items })
+}
+
+/// What the symbols of all files say of their names, and for each file the numbers of these.
+pub fn name_table<'a>(
+    alloc: Global,
+    set: &ObjectSet<'a>,
+) -> Result<(NameTable<'a>, Vec<NameNumbers>), AllocError>
+    ensures seen { IfOk result (λ (table, _). table ≡ names_seen (external_symbols set.now)) }
+    ensures numbers { IfOk result (λ (_, numbers). AreAllNameNumbers
+        (names_of (external_symbols set.now)) set.now (length set.now) numbers.items) }
+    ensures whole { OnOk result (set_refusal set.now ≡ None) }
+{
+    let mut table = NameTable::new(alloc);
+    let mut numbers = Vec::new(alloc);
+    for file in 0..set.file_count() {
+        let row = read_file(alloc, &mut table, set, file)?;
+        numbers.push(row)?;
+    }
+    Ok((table, numbers))
 }

@@ -32,8 +32,8 @@ fn is_answered(alloc: Global, set: &ObjectSet, entry: &[u8], answer: Answer) -> 
             let place = resolved.entry();
             place.section == section && place.offset == offset
         }
-        (Err(Refusal::Duplicate(name, first, second)), Twice(twice, one, other)) => {
-            name.as_slice() == twice && (first, second) == (one, other)
+        (Err(Refusal::Duplicate(name, first, second)), Twice(duplicate_of, one, other)) => {
+            name.as_slice() == duplicate_of && (first, second) == (one, other)
         }
         (Err(Refusal::NoEntry(name)), NoEntry) => name.as_slice() == entry,
         (Err(Refusal::EntryNotCode(name)), NotCode) => name.as_slice() == entry,

@@ -40,11 +40,14 @@ fn name(k: u16) -> [u8; 4] {
 fn many_files_are_resolved(rt: HostRuntime) -> Result<(), Fail> {
     let mut files = Vec::new(rt.alloc());
     for k in 0..4096u16 {
-        let defined = name(k);
+        let definition_in = name(k);
         let used = name(4095 - k);
         files.push(object(
             rt.alloc(),
-            &[(&defined, GLOBAL, Text(4)), (&used, GLOBAL, Undefined)],
+            &[
+                (&definition_in, GLOBAL, Text(4)),
+                (&used, GLOBAL, Undefined),
+            ],
         )?)?;
     }
     assert_eq!(rt; files.len(), 4096);

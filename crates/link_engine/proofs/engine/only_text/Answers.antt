@@ -8,31 +8,31 @@ use Rattle.link_engine.proofs.engine.only_text.Goals as goal
 pub text_of-file-requires : goal.text_of-file-requires
 text_of-file-requires c =
     let entered = c.requires.entered in
-    numbered c.args.resolved.now.0 c.args.resolved.now.1 c.entry.result entered.0 entered.1 entered.2 c.entry.ensures
+    numbered c.args.resolved.now.files c.args.resolved.now.entry c.entry.result entered.0 entered.1 entered.2 c.entry.ensures
 
 pub view-requires : goal.view-requires
 view-requires c =
-    let set = c.args.resolved.now.0 in
+    let set = c.args.resolved.now.files in
     let entered = c.requires.entered in
-    let only = only_text set c.args.resolved.now.1 c.entry.result entered.0 entered.1 c.text_of-file.result c.requires.whole c.requires.built entered.2 c.entry.ensures c.text_of-file.ensures in
+    let only = only_text set c.args.resolved.now.entry c.entry.result entered.0 entered.1 c.text_of-file.result c.requires.whole c.requires.built entered.2 c.entry.ensures c.text_of-file.ensures in
     omega (arith, ap length c.set.ensures, only.file_in)
 
 pub section-requires : goal.section-requires
 section-requires c =
-    let set = c.args.resolved.now.0 in
+    let set = c.args.resolved.now.files in
     let at = c.text_of-file.result in
     let entered = c.requires.entered in
-    let only = only_text set c.args.resolved.now.1 c.entry.result entered.0 entered.1 at c.requires.whole c.requires.built entered.2 c.entry.ensures c.text_of-file.ensures in
+    let only = only_text set c.args.resolved.now.entry c.entry.result entered.0 entered.1 at c.requires.whole c.requires.built entered.2 c.entry.ensures c.text_of-file.ensures in
     let same = ap e_shnum (c.view.ensures ∙ ap (λ s. file_at s at.0) c.set.ensures) in
     omega (arith, same, only.section_in)
 
 pub returns : goal.returns
 returns c =
-    let set = c.args.resolved.now.0 in
+    let set = c.args.resolved.now.files in
     let at = c.text_of-file.result in
     let text = c.section.result.bytes.now in
     let entered = c.requires.entered in
-    let only = only_text set c.args.resolved.now.1 c.entry.result entered.0 entered.1 at c.requires.whole c.requires.built entered.2 c.entry.ensures c.text_of-file.ensures in
+    let only = only_text set c.args.resolved.now.entry c.entry.result entered.0 entered.1 at c.requires.whole c.requires.built entered.2 c.entry.ensures c.text_of-file.ensures in
     let bytes = bytes_are set c.set.result.now at c.view.result.now text c.set.ensures c.view.ensures c.section.ensures.bytes in
     let size = ap length bytes in
     record {

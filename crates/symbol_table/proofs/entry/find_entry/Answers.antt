@@ -1,7 +1,12 @@
 use Rattle.std.proofs.Common.{sym, ◌∙◌}
-use Rattle.symbol_table.specs.Definitions.{definition_placed}
+use Rattle.symbol_table.specs.laws.Definitions.{definition_placed}
 use Rattle.symbol_table.proofs.entry.find_entry.Goals as goal
 
-pub instruction-requires-clause-placed : goal.instruction-requires-clause-placed
-instruction-requires-clause-placed c =
-    definition_placed c.args.set.now c.args.entry.now c.in-Definition.file c.in-Definition.number (sym c.requires.stand ∙ c.in-Definition.is)
+-- what the entry's name stands for is a symbol of one of the files
+pub instruction-requires-clause-file : goal.instruction-requires-clause-file
+instruction-requires-clause-file c =
+    (definition_placed c.args.texts.now c.args.entry.now c.in-Definition.symbol (sym c.requires.resolution ∙ c.in-Definition.is)).file_in
+
+pub instruction-requires-clause-within : goal.instruction-requires-clause-within
+instruction-requires-clause-within c =
+    (definition_placed c.args.texts.now c.args.entry.now c.in-Definition.symbol (sym c.requires.resolution ∙ c.in-Definition.is)).within

@@ -1,0 +1,7 @@
+-- Words of private contracts.
+pub mod Items
+pub mod Keys
+pub mod Names
+pub mod Commons
+pub mod Text
+pub mod Resolved

@@ -1,0 +1,4 @@
+-- What crates above may cite, with its proofs.
+pub mod Text
+pub mod Definitions
+pub mod Targets
