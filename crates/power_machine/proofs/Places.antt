@@ -1,5 +1,43 @@
 -- The segment that an access meets.
-use Rattle.std.proofs.Common.{◌≡◌, ℕ, zero, suc, ◌+◌, ◌-◌, ◌<◌, ◌≤◌, Bool, true, false, ◌&&◌, ◌||◌, not, List, [], ◌∷◌, length, map, take, drop, get_or, Option, Some, None, refl, sym, ap, ◌∙◌, subst, arith, add-one, add-zero, add_assoc, add_comm, cond, ⊎_elim}
+use Rattle.std.proofs.Common.{
+  ◌≡◌,
+  ℕ,
+  zero,
+  suc,
+  ◌+◌,
+  ◌-◌,
+  ◌<◌,
+  ◌≤◌,
+  Bool,
+  true,
+  false,
+  ◌&&◌,
+  ◌||◌,
+  not,
+  List,
+  [],
+  ◌∷◌,
+  length,
+  map,
+  take,
+  drop,
+  get_or,
+  Option,
+  Some,
+  None,
+  refl,
+  sym,
+  ap,
+  ◌∙◌,
+  subst,
+  arith,
+  add-one,
+  add-zero,
+  add_assoc,
+  add_comm,
+  cond,
+  ⊎_elim,
+}
 use Rattle.std.specs.Prelude.{is_some, nat_le, nat_lt, slice_set}
 use Rattle.std.specs.List.{list_any, position, position_or_len}
 use Rattle.std.proofs.lemmas.List.Quantifiers.{position-Some}
@@ -24,7 +62,11 @@ position_within : {X : Type 0} (p : X → Bool) (xs : List X) (i : ℕ) → posi
 position_within p [] i h = cc
 position_within p (x ∷ xs) i h = (position-Some p (x ∷ xs) i x h).0
 
-pub place_found : (purpose : Purpose) (at count : ℕ) (regions : List Region) (index : ℕ) → InOrder regions → place_of purpose at count regions ≡ Some index → IsPlace purpose at count regions index
+pub place_found :
+    (purpose : Purpose) (at count : ℕ) (regions : List Region) (index : ℕ) →
+    InOrder regions →
+    place_of purpose at count regions ≡ Some index →
+    IsPlace purpose at count regions index
 place_found purpose at count regions index order h =
     let inside : index < length regions = position_within _ regions index h in
     record {
@@ -38,7 +80,10 @@ any_map : {X Y : Type 0} (f : X → Y) (p : Y → Bool) (xs : List X) → list_a
 any_map f p [] = refl
 any_map f p (x ∷ xs) = ap (λ b. p (f x) || b) (any_map f p xs)
 
-one_more : (b c : Bool) (n m : ℕ) → c ≡ is_some (cond (nat_lt n m) (Some n) None) → (b || c) ≡ is_some (cond (nat_lt (cond (not b) (1 + n) 0) (suc m)) (Some (cond (not b) (1 + n) 0)) None)
+one_more :
+    (b c : Bool) (n m : ℕ) →
+    c ≡ is_some (cond (nat_lt n m) (Some n) None) →
+    (b || c) ≡ is_some (cond (nat_lt (cond (not b) (1 + n) 0) (suc m)) (Some (cond (not b) (1 + n) 0)) None)
 one_more b c n m h = grind (arith, nat_tests)
 
 any_position : {X : Type 0} (p : X → Bool) (xs : List X) → list_any p xs ≡ is_some (position p xs)
@@ -51,7 +96,12 @@ none_passes p (x ∷ xs) zero d h none = grind (arith, nat_tests)
 none_passes p (x ∷ xs) (suc i) d h none = none_passes p xs i d (omega arith) (grind (arith, nat_tests))
 
 -- regions begin in order
-starts_rise : (regions : List Region) (i j : ℕ) (d : Region) → InOrder regions → i ≤ j → j < length regions → (get_or regions i d).start ≤ (get_or regions j d).start
+starts_rise :
+    (regions : List Region) (i j : ℕ) (d : Region) →
+    InOrder regions →
+    i ≤ j →
+    j < length regions →
+    (get_or regions i d).start ≤ (get_or regions j d).start
 starts_rise regions i j d order le h =
     ⊎_elim
     (λ less. let apart = order.apart i j d less h in omega arith)
@@ -62,52 +112,110 @@ start_with : (regions : List Region) (m : ℕ) (s d : Region) → m < length reg
 start_with regions m s d h = ap (λ (r : Region). r.start) (get_or_default regions m s d h)
 
 -- those in front of one that begins at or below an address do so too
-pub begun_to : (regions : List Region) (m at : ℕ) (s : Region) → InOrder regions → m < length regions → (get_or regions m s).start ≤ at → (i : ℕ) (d : Region) → i < m + 1 → (get_or regions i d).start ≤ at
-begun_to regions m at s order h le i d less = let a = starts_rise regions i m d order (omega arith) h in let b = start_with regions m s d h in omega arith
+pub begun_to :
+    (regions : List Region) (m at : ℕ) (s : Region) →
+    InOrder regions →
+    m < length regions →
+    (get_or regions m s).start ≤ at →
+    (i : ℕ) (d : Region) →
+    i < m + 1 →
+    (get_or regions i d).start ≤ at
+begun_to regions m at s order h le i d less =
+    let a = starts_rise regions i m d order (omega arith) h in let b = start_with regions m s d h in omega arith
 
 -- and those behind one that begins behind it don't
-pub ahead_from : (regions : List Region) (m at : ℕ) (s : Region) → InOrder regions → m < length regions → at < (get_or regions m s).start → (i : ℕ) (d : Region) → m ≤ i → i < length regions → at < (get_or regions i d).start
-ahead_from regions m at s order h lt i d le within = let a = starts_rise regions m i d order le within in let b = start_with regions m s d h in omega arith
+pub ahead_from :
+    (regions : List Region) (m at : ℕ) (s : Region) →
+    InOrder regions →
+    m < length regions →
+    at < (get_or regions m s).start →
+    (i : ℕ) (d : Region) →
+    m ≤ i →
+    i < length regions →
+    at < (get_or regions i d).start
+ahead_from regions m at s order h lt i d le within =
+    let a = starts_rise regions m i d order le within in let b = start_with regions m s d h in omega arith
 
 -- the place that holds bytes is the last that begins at or below them
-place_is_last : (purpose : Purpose) (at count : ℕ) (regions : List Region) (n i : ℕ) (d : Region) → InOrder regions → 0 < count → BeginBy regions at n → place_of purpose at count regions ≡ Some i → i + 1 ≡ n
+place_is_last :
+    (purpose : Purpose) (at count : ℕ) (regions : List Region) (n i : ℕ) (d : Region) →
+    InOrder regions →
+    0 < count →
+    BeginBy regions at n →
+    place_of purpose at count regions ≡ Some i →
+    i + 1 ≡ n
 place_is_last purpose at count regions n i d order some begun h =
     let place = place_found purpose at count regions i order h in
     let starts = place.starts d in
     let ends = place.ends d in
     ⊎_elim
-    (λ less. ⊎_elim (λ lower. absurd (let a = order.apart i (n - 1) d lower (omega (arith, begun.within)) in let b = begun.begun (n - 1) d (omega arith) in omega arith)) (λ same. omega arith) (cases_lt i (n - 1)))
+    (λ less. ⊎_elim (λ lower. absurd
+    (let a = order.apart i (n - 1) d lower (omega (arith, begun.within)) in
+    let b = begun.begun (n - 1) d (omega arith) in omega arith)) (λ same. omega arith) (cases_lt i (n - 1)))
     (λ more. absurd (let a = begun.ahead i d more place.within in omega arith))
     (cases_lt i n)
 
-place_by : (purpose : Purpose) (at count : ℕ) (regions : List Region) (n i : ℕ) (d : Region) (o : Option ℕ) → place_of purpose at count regions ≡ o → InOrder regions → 0 < count → BeginBy regions at n → i + 1 ≡ n → cond (holds purpose at count (range_of (get_or regions i d))) (Some i) None ≡ o
+place_by :
+    (purpose : Purpose) (at count : ℕ) (regions : List Region) (n i : ℕ) (d : Region) (o : Option ℕ) →
+    place_of purpose at count regions ≡ o →
+    InOrder regions →
+    0 < count →
+    BeginBy regions at n →
+    i + 1 ≡ n →
+    cond (holds purpose at count (range_of (get_or regions i d))) (Some i) None ≡ o
 place_by purpose at count regions n i d None h order some begun last =
     let any : list_any (λ r. holds purpose at count (range_of r)) regions ≡ false = any_position _ regions ∙ ap is_some h in
     ap (λ b. cond b (Some i) None) (none_passes (λ r. holds purpose at count (range_of r)) regions i d (omega (arith, begun.within)) any)
 place_by purpose at count regions n i d (Some k) h order some begun last =
     let same : k ≡ i = omega (arith, place_is_last purpose at count regions n k d order some begun h) in
     let passes = (position-Some (λ r. holds purpose at count (range_of r)) regions k d h).1 in
-    let here : holds purpose at count (range_of (get_or regions i d)) ≡ true = subst (λ j. holds purpose at count (range_of (get_or regions j d)) ≡ true) same passes in
+    let here : holds purpose at count (range_of (get_or regions i d)) ≡ true = subst
+    (λ j. holds purpose at count (range_of (get_or regions j d)) ≡ true) same passes in
     ap (λ b. cond b (Some i) None) here ∙ ap Some (sym same)
 
 -- one test tells the place
-pub place_tested : (purpose : Purpose) (at count : ℕ) (regions : List Region) (n i : ℕ) (d : Region) (b : Bool) → InOrder regions → 0 < count → BeginBy regions at n → i + 1 ≡ n → b ≡ holds purpose at count (range_of (get_or regions i d)) → cond b (Some i) None ≡ place_of purpose at count regions
-place_tested purpose at count regions n i d b order some begun last is = ap (λ b. cond b (Some i) None) is ∙ place_by purpose at count regions n i d (place_of purpose at count regions) refl order some begun last
+pub place_tested :
+    (purpose : Purpose) (at count : ℕ) (regions : List Region) (n i : ℕ) (d : Region) (b : Bool) →
+    InOrder regions →
+    0 < count →
+    BeginBy regions at n →
+    i + 1 ≡ n →
+    b ≡ holds purpose at count (range_of (get_or regions i d)) →
+    cond b (Some i) None ≡ place_of purpose at count regions
+place_tested purpose at count regions n i d b order some begun last is =
+    ap (λ b. cond b (Some i) None) is ∙ place_by purpose at count regions n i d (place_of purpose at count regions)
+    refl order some begun last
 
-none_begun : (purpose : Purpose) (at count : ℕ) (regions : List Region) (d : Region) (o : Option ℕ) → place_of purpose at count regions ≡ o → InOrder regions → 0 < count → BeginBy regions at 0 → None ≡ o
+none_begun :
+    (purpose : Purpose) (at count : ℕ) (regions : List Region) (d : Region) (o : Option ℕ) →
+    place_of purpose at count regions ≡ o →
+    InOrder regions →
+    0 < count →
+    BeginBy regions at 0 →
+    None ≡ o
 none_begun purpose at count regions d None h order some begun = refl
-none_begun purpose at count regions d (Some k) h order some begun = absurd (omega (arith, place_is_last purpose at count regions 0 k d order some begun h))
+none_begun purpose at count regions d (Some k) h order some begun =
+    absurd (omega (arith, place_is_last purpose at count regions 0 k d order some begun h))
 
 -- none begins at or below
 -- some region, where one is wanted and which is all the same
 abbrev pub some_region : Region
 some_region = record { start = 0; writable = true; executable = true; bytes = [] }
 
-pub no_place : (purpose : Purpose) (at count : ℕ) (regions : List Region) (d : Region) → InOrder regions → 0 < count → BeginBy regions at 0 → None ≡ place_of purpose at count regions
-no_place purpose at count regions d order some begun = none_begun purpose at count regions d (place_of purpose at count regions) refl order some begun
+pub no_place :
+    (purpose : Purpose) (at count : ℕ) (regions : List Region) (d : Region) →
+    InOrder regions →
+    0 < count →
+    BeginBy regions at 0 →
+    None ≡ place_of purpose at count regions
+no_place purpose at count regions d order some begun =
+    none_begun purpose at count regions d (place_of purpose at count regions) refl order some begun
 
 -- whether there is one is what the ranges say
-pub allows_is : (purpose : Purpose) (at count : ℕ) (regions : List Region) (o : Option ℕ) → place_of purpose at count regions ≡ o → allows purpose at count (ranges_of regions) ≡ is_some o
+pub allows_is :
+    (purpose : Purpose) (at count : ℕ) (regions : List Region) (o : Option ℕ) →
+    place_of purpose at count regions ≡ o →
+    allows purpose at count (ranges_of regions) ≡ is_some o
 allows_is purpose at count regions o h = any_map range_of (holds purpose at count) regions ∙ any_position _ regions ∙ ap is_some h
 
 tail_order : (s : Region) (regions : List Region) → InOrder (s ∷ regions) → InOrder regions
@@ -117,7 +225,13 @@ tail_order s regions order = record {
 }
 
 -- the byte at an address that the segment covers
-pub byte_in : (regions : List Region) (i a : ℕ) (d : Region) → InOrder regions → i < length regions → (get_or regions i d).start ≤ a → a < stop_of (get_or regions i d) → byte_at regions a ≡ get_or (get_or regions i d).bytes (a - (get_or regions i d).start) 0
+pub byte_in :
+    (regions : List Region) (i a : ℕ) (d : Region) →
+    InOrder regions →
+    i < length regions →
+    (get_or regions i d).start ≤ a →
+    a < stop_of (get_or regions i d) →
+    byte_at regions a ≡ get_or (get_or regions i d).bytes (a - (get_or regions i d).start) 0
 byte_in [] i a d order h from to = absurd (omega arith)
 byte_in (s ∷ regions) zero a d order h from to = grind (arith, nat_tests)
 byte_in (s ∷ regions) (suc i) a d order h from to =
@@ -140,7 +254,11 @@ same_bytes f g a b (suc n) h =
     ap (λ x. x ∷ bytes_from f (a + 1) n) first ∙ ap (λ xs. g b ∷ xs) (same_bytes f g (a + 1) (b + 1) n rest)
 
 -- the bytes that a place has
-pub bytes_in : (purpose : Purpose) (regions : List Region) (i at n : ℕ) (d : Region) → InOrder regions → IsPlace purpose at n regions i → take n (drop (at - (get_or regions i d).start) (get_or regions i d).bytes) ≡ bytes_from (byte_at regions) at n
+pub bytes_in :
+    (purpose : Purpose) (regions : List Region) (i at n : ℕ) (d : Region) →
+    InOrder regions →
+    IsPlace purpose at n regions i →
+    take n (drop (at - (get_or regions i d).start) (get_or regions i d).bytes) ≡ bytes_from (byte_at regions) at n
 bytes_in purpose regions i at n d order place =
     let from = place.starts d in
     let to = place.ends d in
@@ -150,14 +268,27 @@ bytes_in purpose regions i at n d order place =
     sym (byte_in regions i (at + k) d order place.within (omega arith) (omega arith) ∙ ap (λ m. get_or (get_or regions i d).bytes m 0) e))
 
 -- an element of a list with others from a place on
-get_over : (old : List ℕ) (from : ℕ) (bytes : List ℕ) (k d : ℕ) → from + length bytes ≤ length old → get_or (over old from bytes) k 0 ≡ cond (nat_le from k && nat_lt k (from + length bytes)) (get_or bytes (k - from) d) (get_or old k 0)
+get_over :
+    (old : List ℕ) (from : ℕ) (bytes : List ℕ) (k d : ℕ) →
+    from + length bytes ≤ length old →
+    get_or (over old from bytes) k 0 ≡ cond (nat_le from k && nat_lt k (from + length bytes))
+    (get_or bytes (k - from) d) (get_or old k 0)
 get_over old from bytes k d h = grind (arith, nat_tests, places)
 
 length_over : (old : List ℕ) (from : ℕ) (bytes : List ℕ) → from + length bytes ≤ length old → length (over old from bytes) ≡ length old
 length_over old from bytes h = grind (arith, nat_tests, places)
 
 -- the bytes after a store
-pub stored_in : (regions : List Region) (i at : ℕ) (bytes : List ℕ) (s' d : Region) → InOrder regions → i < length regions → (get_or regions i d).start ≤ at → at + length bytes ≤ stop_of (get_or regions i d) → s'.start ≡ (get_or regions i d).start → s'.bytes ≡ over (get_or regions i d).bytes (at - (get_or regions i d).start) bytes → (a : ℕ) → byte_at (slice_set regions i s') a ≡ put (byte_at regions) at bytes a
+pub stored_in :
+    (regions : List Region) (i at : ℕ) (bytes : List ℕ) (s' d : Region) →
+    InOrder regions →
+    i < length regions →
+    (get_or regions i d).start ≤ at →
+    at + length bytes ≤ stop_of (get_or regions i d) →
+    s'.start ≡ (get_or regions i d).start →
+    s'.bytes ≡ over (get_or regions i d).bytes (at - (get_or regions i d).start) bytes →
+    (a : ℕ) →
+    byte_at (slice_set regions i s') a ≡ put (byte_at regions) at bytes a
 stored_in [] i at bytes s' d order h from to e f a = absurd (omega arith)
 stored_in (s ∷ regions) zero at bytes s' d order h from to e f a =
     let fits : at - s.start + length bytes ≤ length s.bytes = omega arith in
@@ -170,34 +301,69 @@ stored_in (s ∷ regions) (suc i) at bytes s' d order h from to e f a =
     grind (arith, nat_tests)
 
 -- what the ranges say of a look-up
-pub allowed_is : (purpose : Purpose) (regions xs : List Region) (at count : ℕ) (o p : Option ℕ) → xs ≡ regions → o ≡ p → o ≡ place_of purpose at count xs → is_some p ≡ allows purpose at count (ranges_of regions)
-allowed_is purpose regions xs at count o p same is e = sym (allows_is purpose at count regions p (subst (λ ys. place_of purpose at count ys ≡ p) same (sym e ∙ is)))
+pub allowed_is :
+    (purpose : Purpose) (regions xs : List Region) (at count : ℕ) (o p : Option ℕ) →
+    xs ≡ regions →
+    o ≡ p →
+    o ≡ place_of purpose at count xs →
+    is_some p ≡ allows purpose at count (ranges_of regions)
+allowed_is purpose regions xs at count o p same is e =
+    sym (allows_is purpose at count regions p (subst (λ ys. place_of purpose at count ys ≡ p) same (sym e ∙ is)))
 
 -- what is read, where it may be
 abbrev pub read_by : {A : Type 0} → (List ℕ → A) → Purpose → List Region → ℕ → ℕ → ℕ → Option A
-read_by f purpose regions at room count = cond (allows purpose at room (ranges_of regions)) (Some (f (bytes_from (byte_at regions) at count))) None
+read_by f purpose regions at room count =
+    cond (allows purpose at room (ranges_of regions)) (Some (f (bytes_from (byte_at regions) at count))) None
 
-pub read_none : {A : Type 0} (f : List ℕ → A) (purpose : Purpose) (regions xs : List Region) (at room count : ℕ) (o : Option ℕ) → xs ≡ regions → o ≡ None → o ≡ place_of purpose at room xs → None ≡ read_by f purpose regions at room count
+pub read_none :
+    {A : Type 0} (f : List ℕ → A) (purpose : Purpose) (regions xs : List Region) (at room count : ℕ) (o : Option ℕ) →
+    xs ≡ regions →
+    o ≡ None →
+    o ≡ place_of purpose at room xs →
+    None ≡ read_by f purpose regions at room count
 read_none f purpose regions xs at room count o same none e =
     ap (λ b. cond b (Some (f (bytes_from (byte_at regions) at count))) None) (allowed_is purpose regions xs at room o None same none e)
 
-fewer : (purpose : Purpose) (regions : List Region) (at room count i : ℕ) → count ≤ room → IsPlace purpose at room regions i → IsPlace purpose at count regions i
-fewer purpose regions at room count i le place = record { within = place.within; starts = place.starts; ends = λ d. omega (arith, place.ends d); low = place.low }
+fewer :
+    (purpose : Purpose) (regions : List Region) (at room count i : ℕ) →
+    count ≤ room →
+    IsPlace purpose at room regions i →
+    IsPlace purpose at count regions i
+fewer purpose regions at room count i le place =
+    record { within = place.within; starts = place.starts; ends = λ d. omega (arith, place.ends d); low = place.low }
 
-pub read_some : {A : Type 0} (f : List ℕ → A) (purpose : Purpose) (regions xs : List Region) (at room count : ℕ) (o : Option ℕ) (i : ℕ) (v : A) (s : Region) → InOrder regions → xs ≡ regions → o ≡ Some i → o ≡ place_of purpose at room xs → IsPlace purpose at room xs i → s ≡ get_or regions i s → count ≤ room → v ≡ f (take count (drop (at - s.start) s.bytes)) → Some v ≡ read_by f purpose regions at room count
+pub read_some :
+    {A : Type 0} (f : List ℕ → A) (purpose : Purpose) (regions xs : List Region) (at room count : ℕ) (o : Option ℕ)
+    (i : ℕ) (v : A) (s : Region) →
+    InOrder regions →
+    xs ≡ regions →
+    o ≡ Some i →
+    o ≡ place_of purpose at room xs →
+    IsPlace purpose at room xs i →
+    s ≡ get_or regions i s →
+    count ≤ room →
+    v ≡ f (take count (drop (at - s.start) s.bytes)) →
+    Some v ≡ read_by f purpose regions at room count
 read_some f purpose regions xs at room count o i v s order same some e place item le read =
     let place' : IsPlace purpose at room regions i = subst (λ ys. IsPlace purpose at room ys i) same place in
-    ap Some (read ∙ ap (λ (t : Region). f (take count (drop (at - t.start) t.bytes))) item ∙ ap f (bytes_in purpose regions i at count s order (fewer purpose regions at room count i le place')))
-    ∙ ap (λ b. cond b (Some (f (bytes_from (byte_at regions) at count))) None) (allowed_is purpose regions xs at room o (Some i) same some e)
+    ap Some (read ∙ ap (λ (t : Region). f (take count (drop (at - t.start) t.bytes))) item
+    ∙ ap f (bytes_in purpose regions i at count s order (fewer purpose regions at room count i le place')))
+    ∙ ap (λ b. cond b (Some (f (bytes_from (byte_at regions) at count))) None)
+    (allowed_is purpose regions xs at room o (Some i) same some e)
 
 -- writes
-pub ranges_set : (regions : List Region) (i : ℕ) (s s' : Region) → s ≡ get_or regions i s → range_of s' ≡ range_of s → ranges_of (slice_set regions i s') ≡ ranges_of regions
+pub ranges_set :
+    (regions : List Region) (i : ℕ) (s s' : Region) →
+    s ≡ get_or regions i s →
+    range_of s' ≡ range_of s →
+    ranges_of (slice_set regions i s') ≡ ranges_of regions
 ranges_set regions i s s' item same = map-set_same range_of regions i s' s (same ∙ ap range_of item)
 
 pub order_kept : (xs ys : List Region) → ranges_of xs ≡ ranges_of ys → InOrder ys → InOrder xs
 order_kept xs ys e order =
     let long : length xs ≡ length ys = sym (length-map xs range_of) ∙ ap length e ∙ length-map ys range_of in
-    let at : (i : ℕ) (d : Region) → range_of (get_or xs i d) ≡ range_of (get_or ys i d) = λ i d. sym (get_or-map range_of xs i d) ∙ ap (λ l. get_or l i (range_of d)) e ∙ get_or-map range_of ys i d in
+    let at : (i : ℕ) (d : Region) → range_of (get_or xs i d) ≡ range_of (get_or ys i d) = λ i d. sym
+    (get_or-map range_of xs i d) ∙ ap (λ l. get_or l i (range_of d)) e ∙ get_or-map range_of ys i d in
     record {
       low = λ i d h. let f = ap (λ (r : Range). r.stop) (at i d) in omega (arith, order.low i d (omega arith));
       apart = λ i j d h k.
@@ -210,8 +376,14 @@ order_kept xs ys e order =
 abbrev pub with_contents : Region → List ℕ → Region
 with_contents s bytes = record { start = s.start; writable = s.writable; executable = s.executable; bytes = bytes }
 
-pub range_over : (s : Region) (bytes' : List ℕ) (from : ℕ) (bytes : List ℕ) → from + length bytes ≤ length s.bytes → bytes' ≡ over s.bytes from bytes → range_of (with_contents s bytes') ≡ range_of s
-range_over s bytes' from bytes h e = ap (λ n. record { start = s.start; stop = s.start + n; writable = s.writable; executable = s.executable }) (ap length e ∙ length_over s.bytes from bytes h)
+pub range_over :
+    (s : Region) (bytes' : List ℕ) (from : ℕ) (bytes : List ℕ) →
+    from + length bytes ≤ length s.bytes →
+    bytes' ≡ over s.bytes from bytes →
+    range_of (with_contents s bytes') ≡ range_of s
+range_over s bytes' from bytes h e =
+    ap (λ n. record { start = s.start; stop = s.start + n; writable = s.writable; executable = s.executable })
+    (ap length e ∙ length_over s.bytes from bytes h)
 
 -- a write, from what the calls ensure
 pub record Stored (regions : List Region) (at i : ℕ) (s : Region) (bytes bytes' : List ℕ) : Type 0 where
@@ -219,7 +391,16 @@ pub record Stored (regions : List Region) (at i : ℕ) (s : Region) (bytes bytes
   pub in_order : InOrder (slice_set regions i (with_contents s bytes'))
   pub bytes_are : byte_at (slice_set regions i (with_contents s bytes')) ≡ put (byte_at regions) at bytes
 
-pub stored : (regions xs : List Region) (at room i : ℕ) (s : Region) (bytes bytes' ys : List ℕ) → InOrder regions → xs ≡ regions → IsPlace Storing at room xs i → s ≡ get_or regions i s → ys ≡ s.bytes → length bytes ≤ room → bytes' ≡ over ys (at - s.start) bytes → Stored regions at i s bytes bytes'
+pub stored :
+    (regions xs : List Region) (at room i : ℕ) (s : Region) (bytes bytes' ys : List ℕ) →
+    InOrder regions →
+    xs ≡ regions →
+    IsPlace Storing at room xs i →
+    s ≡ get_or regions i s →
+    ys ≡ s.bytes →
+    length bytes ≤ room →
+    bytes' ≡ over ys (at - s.start) bytes →
+    Stored regions at i s bytes bytes'
 stored regions xs at room i s bytes bytes' ys order same place item read le write =
     let place' : IsPlace Storing at room regions i = subst (λ ys. IsPlace Storing at room ys i) same place in
     let start : s.start ≡ (get_or regions i s).start = ap (λ (t : Region). t.start) item in
@@ -232,5 +413,7 @@ stored regions xs at room i s bytes bytes' ys order same place item read le writ
     record {
       ranges = ranges;
       in_order = order_kept _ regions ranges order;
-      bytes_are = λ j a. stored_in regions i at bytes (with_contents s bytes') s order place'.within from (omega arith) start (write' ∙ ap (λ xs. over xs (at - s.start) bytes) items ∙ ap (λ n. over (get_or regions i s).bytes (at - n) bytes) start) a j;
+      bytes_are = λ j a. stored_in regions i at bytes (with_contents s bytes') s order place'.within from
+          (omega arith) start (write' ∙ ap (λ xs. over xs (at - s.start) bytes) items
+          ∙ ap (λ n. over (get_or regions i s).bytes (at - n) bytes) start) a j;
     }

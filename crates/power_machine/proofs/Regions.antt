@@ -1,5 +1,34 @@
 -- The regions of an executable's segments, and what they stand for.
-use Rattle.std.proofs.Common.{◌≡◌, ℕ, zero, suc, ◌+◌, ◌-◌, ◌<◌, ◌≤◌, Bool, true, false, ◌&&◌, List, [], ◌∷◌, ◌++◌, length, map, get_or, cond, refl, sym, ap, ◌∙◌, subst, arith, ⊎_elim, append_assoc}
+use Rattle.std.proofs.Common.{
+  ◌≡◌,
+  ℕ,
+  zero,
+  suc,
+  ◌+◌,
+  ◌-◌,
+  ◌<◌,
+  ◌≤◌,
+  Bool,
+  true,
+  false,
+  ◌&&◌,
+  List,
+  [],
+  ◌∷◌,
+  ◌++◌,
+  length,
+  map,
+  get_or,
+  cond,
+  refl,
+  sym,
+  ap,
+  ◌∙◌,
+  subst,
+  arith,
+  ⊎_elim,
+  append_assoc,
+}
 use Rattle.std.specs.Prelude.{nat_le, nat_lt, replicate}
 use Rattle.std.specs.List.{All}
 use Rattle.std.proofs.lemmas.List.{length-replicate, length-append, length-map, get_or_default}
@@ -48,17 +77,30 @@ region_stop s sound =
 stack_stop : stop_of stack_region ≡ 0x80000000
 stack_stop = let long = length-zeros 0x800000 in omega (arith, long)
 
-pub ranges_start : (segments : List Segment) → All IsSound segments → ranges_of (map region_of segments ++ stack_region ∷ []) ≡ start_ranges segments
+pub ranges_start :
+    (segments : List Segment) →
+    All IsSound segments →
+    ranges_of (map region_of segments ++ stack_region ∷ []) ≡ start_ranges segments
 ranges_start [] sound = ap (λ n. record { start = 0x7F800000; stop = n; writable = true; executable = false } ∷ []) stack_stop
 ranges_start (s ∷ segments) sound =
-    ap (λ n. record { start = s.address; stop = n; writable = (region_of s).writable; executable = (region_of s).executable } ∷ ranges_of (map region_of segments ++ stack_region ∷ [])) (region_stop s (sound 0 s (omega arith)))
+    ap (λ n. record {
+      start = s.address;
+      stop = n;
+      writable = (region_of s).writable;
+      executable = (region_of s).executable;
+    } ∷ ranges_of (map region_of segments ++ stack_region ∷ []))
+    (region_stop s (sound 0 s (omega arith)))
     ∙ ap (λ rs. segment_range s ∷ rs) (ranges_start segments (All-tail IsSound s segments sound))
 
 same_either : (b : Bool) → cond b nought nought ≡ nought
 same_either true = refl
 same_either false = refl
 
-pub byte_start : (segments : List Segment) → All IsSound segments → (a : ℕ) → byte_at (map region_of segments ++ stack_region ∷ []) a ≡ start_byte segments a
+pub byte_start :
+    (segments : List Segment) →
+    All IsSound segments →
+    (a : ℕ) →
+    byte_at (map region_of segments ++ stack_region ∷ []) a ≡ start_byte segments a
 byte_start [] sound a =
     let b = nat_le 0x7F800000 a && nat_lt a (stop_of stack_region) in
     ap (λ x. cond b x nought) (zero_in 0x800000 (a - 0x7F800000)) ∙ same_either b
@@ -68,12 +110,16 @@ byte_start (s ∷ segments) sound a =
     let here = get_or (region_of s).bytes (a - s.address) nought in
     ap (λ n. cond (from && nat_lt a n) here rest) (region_stop s (sound 0 s (omega arith)))
     ∙ ap (λ x. cond (from && nat_lt a (end_of s)) x rest) (with_zeros s.bytes (s.size - length s.bytes) (a - s.address))
-    ∙ ap (λ x. cond (from && nat_lt a (end_of s)) (get_or s.bytes (a - s.address) nought) x) (byte_start segments (All-tail IsSound s segments sound) a)
+    ∙ ap (λ x. cond (from && nat_lt a (end_of s)) (get_or s.bytes (a - s.address) nought) x)
+    (byte_start segments (All-tail IsSound s segments sound) a)
 
 empty : Segment
 empty = record { flags = 0; address = 0; bytes = []; size = 0 }
 
-at_segment : (xs : List Segment) (i : ℕ) (d : Region) → i < length xs → get_or (map region_of xs ++ stack_region ∷ []) i d ≡ region_of (get_or xs i empty)
+at_segment :
+    (xs : List Segment) (i : ℕ) (d : Region) →
+    i < length xs →
+    get_or (map region_of xs ++ stack_region ∷ []) i d ≡ region_of (get_or xs i empty)
 at_segment xs i d h =
     let long : length (map region_of xs) ≡ length xs = length-map xs region_of in
     let within : i < length (map region_of xs) = omega (arith, long) in
@@ -104,7 +150,8 @@ regions_in_order xs placed =
       low = λ i d h.
           ⊎_elim
           (λ l. let b = below i d l in omega (arith, b))
-          (λ g. let e : stop_of (get_or all i d) ≡ 0x80000000 = ap stop_of (at_stack xs i d (omega (arith, count))) ∙ stack_stop in omega (arith, e))
+          (λ g. let e : stop_of (get_or all i d) ≡ 0x80000000 = ap stop_of (at_stack xs i d (omega (arith, count)))
+          ∙ stack_stop in omega (arith, e))
           (cases_lt i (length xs));
       apart = λ i j d h k.
           ⊎_elim
@@ -121,7 +168,13 @@ regions_in_order xs placed =
     }
 
 -- one segment more
-pub regions_more : (done done' : List Region) (s : Segment) (r : Region) (rest rest' : List Segment) (all : List Region) → rest ≡ s ∷ rest' → r ≡ region_of s → done' ≡ done ++ r ∷ [] → done ++ map region_of rest ≡ all → done' ++ map region_of rest' ≡ all
+pub regions_more :
+    (done done' : List Region) (s : Segment) (r : Region) (rest rest' : List Segment) (all : List Region) →
+    rest ≡ s ∷ rest' →
+    r ≡ region_of s →
+    done' ≡ done ++ r ∷ [] →
+    done ++ map region_of rest ≡ all →
+    done' ++ map region_of rest' ≡ all
 regions_more done done' s r rest rest' all e f g h =
     ap (λ xs. xs ++ map region_of rest') (g ∙ ap (λ x. done ++ x ∷ []) f)
     ∙ append_assoc done (region_of s ∷ []) (map region_of rest')
@@ -135,6 +188,10 @@ sound_more s rest rest' e h = All-tail IsSound s rest' (subst (All IsSound) e h)
 abbrev pub loaded : ℕ → (ℕ → ℕ) → NumberState
 loaded entry byte = record { at = entry; registers = start_registers entry; condition = replicate 32 false; byte = byte }
 
-pub state_start : (entry : ℕ) (segments : List Segment) (regions : List Region) → All IsSound segments → regions ≡ map region_of segments ++ stack_region ∷ [] → loaded entry (byte_at regions) ≡ start_state entry segments
+pub state_start :
+    (entry : ℕ) (segments : List Segment) (regions : List Region) →
+    All IsSound segments →
+    regions ≡ map region_of segments ++ stack_region ∷ [] →
+    loaded entry (byte_at regions) ≡ start_state entry segments
 state_start entry segments regions sound e =
     ap (λ rs. loaded entry (byte_at rs)) e ∙ ap (loaded entry) (λ j a. byte_start segments sound a j)

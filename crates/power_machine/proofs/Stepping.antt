@@ -20,10 +20,17 @@ made_over ranges r status e = record {
 }
 
 -- a run that goes on
-pub made_by : (ranges : List Range) (old new : NumberRun) (code : Code) (o : StepOutcome) → old.ended ≡ None → IsNext ranges old.state code → Performs (step_over ranges old code) old new o → Made ranges old new o
+pub made_by :
+    (ranges : List Range) (old new : NumberRun) (code : Code) (o : StepOutcome) →
+    old.ended ≡ None →
+    IsNext ranges old.state code →
+    Performs (step_over ranges old code) old new o →
+    Made ranges old new o
 made_by ranges old new code o e stands h = record {
   next = step_over ranges old code;
-  steps = (let one : IsStep ranges old (step_over ranges old code) = record { code = code; stands = stands; is = refl } in subst (λ o. StepsFrom (IsStep ranges) old o (step_over ranges old code)) (sym e) one);
+  steps =
+      (let one : IsStep ranges old (step_over ranges old code) = record { code = code; stands = stands; is = refl }
+      in subst (λ o. StepsFrom (IsStep ranges) old o (step_over ranges old code)) (sym e) one);
   performs = h;
 }
 
@@ -37,7 +44,10 @@ not_left None reason at h = cc
 not_left (Some x) reason at h = cc
 
 -- a step that leaves changes nothing
-pub left_is : (next : Next NumberRun) (old new : NumberRun) (reason : Reason) (at : ℕ) → Performs next old new (outcome.Left reason at) → new ≡ old
+pub left_is :
+    (next : Next NumberRun) (old new : NumberRun) (reason : Reason) (at : ℕ) →
+    Performs next old new (outcome.Left reason at) →
+    new ≡ old
 left_is (Went r) old new reason at h = absurd (not_left r.ended reason at h.0)
 left_is (Left why) old new reason at h = h.1
 
@@ -54,11 +64,17 @@ went : (next : Next NumberRun) (now new : NumberRun) → Performs next now new o
 went (Went r) now new h = ap Going h.1 ∙ going_on r r.ended h.0
 went (Left reason) now new h = cc
 
-ended : (next : Next NumberRun) (now new : NumberRun) (status : ℕ) → Performs next now new (outcome.Ended status) → Done status new ≡ progress_of now next
+ended :
+    (next : Next NumberRun) (now new : NumberRun) (status : ℕ) →
+    Performs next now new (outcome.Ended status) →
+    Done status new ≡ progress_of now next
 ended (Went r) now new status h = ap (Done status) h.1 ∙ ending r r.ended status h.0
 ended (Left reason) now new status h = cc
 
-left : (next : Next NumberRun) (now new : NumberRun) (reason : Reason) (at : ℕ) → Performs next now new (outcome.Left reason at) → (Gone reason new ≡ progress_of now next) × (at ≡ new.state.at)
+left :
+    (next : Next NumberRun) (now new : NumberRun) (reason : Reason) (at : ℕ) →
+    Performs next now new (outcome.Left reason at) →
+    (Gone reason new ≡ progress_of now next) × (at ≡ new.state.at)
 left (Went r) now new reason at h = absurd (not_left r.ended reason at h.0)
 left (Left why) now new reason at h =
     let same : reason ≡ why = cc in
@@ -66,7 +82,12 @@ left (Left why) now new reason at h =
     (ap (λ z. Gone z new) same ∙ ap (Gone why) h.1, place ∙ ap (λ (r : NumberRun). r.state.at) (sym h.1))
 
 module _ (ranges : List Range) (old : NumberRun) where
-  next_is : (n : ℕ) (now : NumberRun) (s : Next NumberRun) (p : NumberProgress) → Reaches (IsStep ranges) n old (Going now) → Steps (IsStep ranges) now s → p ≡ progress_of now s → Reaches (IsStep ranges) (n + 1) old p
+  next_is :
+      (n : ℕ) (now : NumberRun) (s : Next NumberRun) (p : NumberProgress) →
+      Reaches (IsStep ranges) n old (Going now) →
+      Steps (IsStep ranges) now s →
+      p ≡ progress_of now s →
+      Reaches (IsStep ranges) (n + 1) old p
   next_is n now s p so_far is e = rw add-one (Going now, so_far, (s, is, e))
 
   pub over_before : (n status : ℕ) → old.ended ≡ Some status → Reaches (IsStep ranges) n old (Done status old)
@@ -75,21 +96,47 @@ module _ (ranges : List Range) (old : NumberRun) where
   pub begins : old.ended ≡ None → Reaches (IsStep ranges) 0 old (Going old)
   begins h = sym (ap (begun old) h)
 
-  pub goes_on : (ranges' : List Range) (n : ℕ) (now new : NumberRun) → ranges' ≡ ranges → Reaches (IsStep ranges) n old (Going now) → Made ranges' now new outcome.Went → Reaches (IsStep ranges) (n + 1) old (Going new)
+  pub goes_on :
+      (ranges' : List Range) (n : ℕ) (now new : NumberRun) →
+      ranges' ≡ ranges →
+      Reaches (IsStep ranges) n old (Going now) →
+      Made ranges' now new outcome.Went →
+      Reaches (IsStep ranges) (n + 1) old (Going new)
   goes_on ranges' n now new same so_far made =
       let m = subst (λ rs. Made rs now new outcome.Went) same made in
       next_is n now m.next (Going new) so_far m.steps (went m.next now new m.performs)
 
-  pub ends_now : (ranges' : List Range) (n m : ℕ) (now new : NumberRun) (status : ℕ) → ranges' ≡ ranges → n < m → Reaches (IsStep ranges) n old (Going now) → Made ranges' now new (outcome.Ended status) → Reaches (IsStep ranges) m old (Done status new)
+  pub ends_now :
+      (ranges' : List Range) (n m : ℕ) (now new : NumberRun) (status : ℕ) →
+      ranges' ≡ ranges →
+      n < m →
+      Reaches (IsStep ranges) n old (Going now) →
+      Made ranges' now new (outcome.Ended status) →
+      Reaches (IsStep ranges) m old (Done status new)
   ends_now ranges' n m now new status same lt so_far made =
       let d = subst (λ rs. Made rs now new (outcome.Ended status)) same made in
-      over_stays (IsStep ranges) old (Done status new) refl (n + 1) m (omega arith) (next_is n now d.next (Done status new) so_far d.steps (ended d.next now new status d.performs))
+      over_stays (IsStep ranges) old (Done status new) refl (n + 1) m (omega arith)
+      (next_is n now d.next (Done status new) so_far d.steps (ended d.next now new status d.performs))
 
-  pub leaves_now : (ranges' : List Range) (n m : ℕ) (now new : NumberRun) (reason : Reason) (at : ℕ) → ranges' ≡ ranges → n < m → Reaches (IsStep ranges) n old (Going now) → Made ranges' now new (outcome.Left reason at) → Reaches (IsStep ranges) m old (Gone reason new) × (at ≡ new.state.at)
+  pub leaves_now :
+      (ranges' : List Range) (n m : ℕ) (now new : NumberRun) (reason : Reason) (at : ℕ) →
+      ranges' ≡ ranges →
+      n < m →
+      Reaches (IsStep ranges) n old (Going now) →
+      Made ranges' now new (outcome.Left reason at) →
+      Reaches (IsStep ranges) m old (Gone reason new) × (at ≡ new.state.at)
   leaves_now ranges' n m now new reason at same lt so_far made =
       let d = subst (λ rs. Made rs now new (outcome.Left reason at)) same made in
-      let l = left d.next now new reason at d.performs in
-      (over_stays (IsStep ranges) old (Gone reason new) refl (n + 1) m (omega arith) (next_is n now d.next (Gone reason new) so_far d.steps l.0), l.1)
+      let l = left d.next now new reason at d.performs in (
+        over_stays (IsStep ranges) old (Gone reason new) refl (n + 1) m (omega arith)
+            (next_is n now d.next (Gone reason new) so_far d.steps l.0),
+        l.1,
+      )
 
-  pub keeps_now : (ranges' : List Range) (n m : ℕ) (now new : NumberRun) → n < m → Reaches (IsStep ranges) n old (Going now) → Made ranges' now new outcome.Memory → (k : ℕ) × (k < m) × Reaches (IsStep ranges) k old (Going new)
+  pub keeps_now :
+      (ranges' : List Range) (n m : ℕ) (now new : NumberRun) →
+      n < m →
+      Reaches (IsStep ranges) n old (Going now) →
+      Made ranges' now new outcome.Memory →
+      (k : ℕ) × (k < m) × Reaches (IsStep ranges) k old (Going new)
   keeps_now ranges' n m now new lt so_far made = (n, lt, subst (λ r. Reaches (IsStep ranges) n old (Going r)) (sym made.performs) so_far)

@@ -1,6 +1,32 @@
--- System calls: exit, exit_group, read and write, answered by a world (the numbers are Linux's for 64-bit Power). They are said once, for every
+-- System calls: exit, exit_group, read and write, answered by a world (the numbers are Linux's for 64-bit Power). They are said once,
+-- for every
 -- kind of value: where a call needs a number and there is none it leaves.
-use Rattle.std.specs.Prelude.{◌≡◌, ◌≤◌, ℕ, ◌%◌, min, Bool, true, false, ◌||◌, List, [], ◌∷◌, ◌++◌, length, map, take, drop, Option, Some, None, slice_set, slice_get, if◌then◌else◌, ◌==◌}
+use Rattle.std.specs.Prelude.{
+  ◌≡◌,
+  ◌≤◌,
+  ℕ,
+  ◌%◌,
+  min,
+  Bool,
+  true,
+  false,
+  ◌||◌,
+  List,
+  [],
+  ◌∷◌,
+  ◌++◌,
+  length,
+  map,
+  take,
+  drop,
+  Option,
+  Some,
+  None,
+  slice_set,
+  slice_get,
+  if◌then◌else◌,
+  ◌==◌,
+}
 use Rattle.power_machine.specs.declared.memory.Purpose.{Purpose}
 use Rattle.power_machine.specs.declared.memory.Purpose.TheVariants.{Loading, Storing}
 use Rattle.power_machine.specs.declared.reason.Reason.{Reason}
@@ -59,7 +85,8 @@ pub record Asked : Type 0 where
   pub length : ℕ
 
 abbrev pub event_of : Asked → Answer → List ℕ → Event
-event_of q a bytes = record { number = q.number; fd = q.descriptor; address = q.address; length = q.length; bytes = bytes; error = error_of a }
+event_of q a bytes =
+    record { number = q.number; fd = q.descriptor; address = q.address; length = q.length; bytes = bytes; error = error_of a }
 
 -- one more number, where there is one and the others are there
 abbrev pub with_number : Option ℕ → Option (List ℕ) → Option (List ℕ)
@@ -80,26 +107,36 @@ module _ {V B T P : Type 0} (d : Domain V B T P) where
   -- r3 and CR0.SO tell how the call went
   abbrev pub after_call : State V B T P → Answer → ℕ → (ℕ → B) → State V B T P
   after_call s a count byte =
-      record { at = d.ahead s.at 4; registers = slice_set s.registers 3 (d.num (result_of a count)); condition = slice_set s.condition 3 (d.flag (is_error a)); byte = byte }
+      record {
+        at = d.ahead s.at 4;
+        registers = slice_set s.registers 3 (d.num (result_of a count));
+        condition = slice_set s.condition 3 (d.flag (is_error a));
+        byte = byte;
+      }
 
   -- the run after a call that has come to this state, with this input left
   abbrev pub answered : Run V B T P → Asked → Answer → List ℕ → List ℕ → State V B T P → Run V B T P
-  answered r q a bytes input s = record { state = s; input = input; answers = drop 1 r.answers; events = r.events ++ event_of q a bytes ∷ []; ended = r.ended }
+  answered r q a bytes input s =
+      record { state = s; input = input; answers = drop 1 r.answers; events = r.events ++ event_of q a bytes ∷ []; ended = r.ended }
 
   -- a read gives the next bytes of the input
   abbrev pub after_read : Run V B T P → Asked → Answer → List ℕ → Run V B T P
   after_read r q a bytes =
-      answered r q a bytes (drop (granted a q.length) r.input) (after_call r.state a (length bytes) (put r.state.byte q.address (map d.byte bytes)))
+      answered r q a bytes (drop (granted a q.length) r.input)
+      (after_call r.state a (length bytes) (put r.state.byte q.address (map d.byte bytes)))
 
   -- a write takes bytes from memory
   abbrev pub after_write : Run V B T P → Asked → Answer → List ℕ → Run V B T P
   after_write r q a bytes = answered r q a bytes r.input (after_call r.state a (granted a q.length) r.state.byte)
 
-  -- A read or a write. Its range is known by r4 and r5 and must be allowed as a whole, also where fewer bytes come or go; r3 is looked at last.
+  -- A read or a write. Its range is known by r4 and r5 and must be allowed as a whole, also where fewer bytes come or go; r3 is looked
+  -- at last.
   abbrev pub asking : Permission → Purpose → Reason → ℕ → Run V B T P → (Asked → Next (Run V B T P)) → Next (Run V B T P)
   asking may purpose reason number r go =
-      need (number_in r 4) why.Value (λ address. need (number_in r 5) why.Value (λ length. check (allows_range may purpose address length) reason
-      (need (number_in r 3) why.Value (λ descriptor. go (record { number = number; descriptor = descriptor; address = address; length = length })))))
+      need (number_in r 4) why.Value (λ address. need (number_in r 5) why.Value
+      (λ length. check (allows_range may purpose address length) reason
+      (need (number_in r 3) why.Value
+      (λ descriptor. go (record { number = number; descriptor = descriptor; address = address; length = length })))))
 
   abbrev pub read_by : Run V B T P → Answer → Asked → Next (Run V B T P)
   read_by r a q = Went (after_read r q a (take (granted a q.length) r.input))
@@ -109,7 +146,8 @@ module _ {V B T P : Type 0} (d : Domain V B T P) where
 
   -- the bytes that are taken must be numbers
   abbrev pub write_by : Run V B T P → Answer → Asked → Next (Run V B T P)
-  write_by r a q = need (numbers_in (bytes_from r.state.byte q.address (granted a q.length))) why.Value (λ bytes. Went (after_write r q a bytes))
+  write_by r a q =
+      need (numbers_in (bytes_from r.state.byte q.address (granted a q.length))) why.Value (λ bytes. Went (after_write r q a bytes))
 
   abbrev pub writes : Permission → Run V B T P → Next (Run V B T P)
   writes may r = asking may Loading why.Load 4 r (write_by r (first_answer r.answers))

@@ -42,7 +42,8 @@ abbrev pub Stands : List Range → (ℕ → ℕ) → ℕ → Code → Type 0
 Stands ranges byte at Unfetched = is_executable ranges at ≡ false
 Stands ranges byte at (OneWord insn) = (is_executable ranges at ≡ true) × IsOneWord (word_in byte at) insn
 Stands ranges byte at (TwoWords insn) =
-    (is_executable ranges at ≡ true) × HasNoWord byte at × HasSecond ranges at × IsTwoWords (word_in byte at) (word_in byte (sum_address at 4)) insn
+    (is_executable ranges at ≡ true) × HasNoWord byte at × HasSecond ranges at × IsTwoWords (word_in byte at)
+    (word_in byte (sum_address at 4)) insn
 Stands ranges byte at Unknown =
     (is_executable ranges at ≡ true) × HasNoWord byte at
     × ((insn : PInsn) → HasSecond ranges at → ¬ IsTwoWords (word_in byte at) (word_in byte (sum_address at 4)) insn)

@@ -1,5 +1,25 @@
 -- What an operation does to the state of a machine, once for every kind of value (Power ISA 3.1, book I, chapters 2 and 3).
-use Rattle.std.specs.Prelude.{ℕ, ◌+◌, ◌-◌, ◌*◌, ◌%◌, ◌^◌, Bool, true, false, not, ◌&&◌, ◌==◌, List, Option, Some, None, if◌then◌else◌, slice_index_or, slice_set}
+use Rattle.std.specs.Prelude.{
+  ℕ,
+  ◌+◌,
+  ◌-◌,
+  ◌*◌,
+  ◌%◌,
+  ◌^◌,
+  Bool,
+  true,
+  false,
+  not,
+  ◌&&◌,
+  ◌==◌,
+  List,
+  Option,
+  Some,
+  None,
+  if◌then◌else◌,
+  slice_index_or,
+  slice_set,
+}
 use Rattle.power_insns.specs.declared.meaning.Width.{Width}
 use Rattle.power_insns.specs.declared.meaning.Width.TheVariants.{Long}
 use Rattle.power_insns.specs.declared.meaning.Sign.{Sign}
@@ -105,10 +125,17 @@ module _ {V B T P : Type 0} (d : Domain V B T P) where
 
   -- a register gets a value, and field 0 of CR the value's order against 0 where that is asked
   abbrev pub with_result : ℕ → State V B T P → ℕ → V → Bool → State V B T P
-  with_result size s to v rc = record { at = d.ahead s.at size; registers = slice_set s.registers to v; condition = (if rc then with_field s.condition 0 (d.compare Long Signed v (d.num 0)) else s.condition); byte = s.byte }
+  with_result size s to v rc =
+      record {
+        at = d.ahead s.at size;
+        registers = slice_set s.registers to v;
+        condition = (if rc then with_field s.condition 0 (d.compare Long Signed v (d.num 0)) else s.condition);
+        byte = s.byte;
+      }
 
   abbrev pub with_order : ℕ → State V B T P → ℕ → List T → State V B T P
-  with_order size s field bits = record { at = d.ahead s.at size; registers = s.registers; condition = with_field s.condition field bits; byte = s.byte }
+  with_order size s field bits =
+      record { at = d.ahead s.at size; registers = s.registers; condition = with_field s.condition field bits; byte = s.byte }
 
   -- the register that gets a store's address, if one does
   abbrev pub updated : List V → Option ℕ → ℕ → List V
@@ -116,11 +143,13 @@ module _ {V B T P : Type 0} (d : Domain V B T P) where
   updated registers (Some r) a = slice_set registers r (d.num a)
 
   abbrev pub with_bytes : ℕ → State V B T P → Option ℕ → ℕ → List B → State V B T P
-  with_bytes size s update a bytes = record { at = d.ahead s.at size; registers = updated s.registers update a; condition = s.condition; byte = put s.byte a bytes }
+  with_bytes size s update a bytes =
+      record { at = d.ahead s.at size; registers = updated s.registers update a; condition = s.condition; byte = put s.byte a bytes }
 
   abbrev pub load_at : ℕ → Permission → State V B T P → Width → Sign → ℕ → ℕ → Next (State V B T P)
   load_at size may s width sign to a =
-      check (may Loading a (bytes_of width)) why.Load (Went (with_result size s to (d.join width sign (bytes_from s.byte a (bytes_of width))) false))
+      check (may Loading a (bytes_of width)) why.Load
+      (Went (with_result size s to (d.join width sign (bytes_from s.byte a (bytes_of width))) false))
 
   abbrev pub store_at : ℕ → Permission → State V B T P → Width → ℕ → Option ℕ → ℕ → Next (State V B T P)
   store_at size may s width from update a =
@@ -128,7 +157,8 @@ module _ {V B T P : Type 0} (d : Domain V B T P) where
 
   -- the sum of a base and an offset as an address
   abbrev pub with_address : State V B T P → Operand → Operand → (ℕ → Next (State V B T P)) → Next (State V B T P)
-  with_address s base offset go = need (d.number (value_of s base)) why.Value (λ b. need (d.number (value_of s offset)) why.Value (λ o. go (sum_address b o)))
+  with_address s base offset go =
+      need (d.number (value_of s base)) why.Value (λ b. need (d.number (value_of s offset)) why.Value (λ o. go (sum_address b o)))
 
   -- Branches: CTR is lowered first, the target is read next, and LR is set last, also where the branch isn't taken.
   abbrev pub target_of : P → List V → BranchTarget → Option P
@@ -139,10 +169,12 @@ module _ {V B T P : Type 0} (d : Domain V B T P) where
   linked registers next link = if link then slice_set registers link_register (d.code next) else registers
 
   abbrev pub going : ℕ → State V B T P → List V → Bool → P → State V B T P
-  going size s registers link to = record { at = to; registers = linked registers (d.ahead s.at size) link; condition = s.condition; byte = s.byte }
+  going size s registers link to =
+      record { at = to; registers = linked registers (d.ahead s.at size) link; condition = s.condition; byte = s.byte }
 
   abbrev pub branches : ℕ → State V B T P → List V → BranchTarget → Bool → Bool → Next (State V B T P)
-  branches size s registers target link true = need (target_of s.at registers target) why.Value (λ to. Went (going size s registers link to))
+  branches size s registers target link true =
+      need (target_of s.at registers target) why.Value (λ to. Went (going size s registers link to))
   branches size s registers target link false = Went (going size s registers link (d.ahead s.at size))
 
   abbrev pub wanted : List T → Condition → Option Bool
@@ -156,11 +188,14 @@ module _ {V B T P : Type 0} (d : Domain V B T P) where
   abbrev pub branch : ℕ → State V B T P → Counter → Condition → BranchTarget → Bool → Next (State V B T P)
   branch size s Kept condition target link = branch_if size s s.registers true condition target link
   branch size s (Lowered zero) condition target link =
-      need (d.number (register s.registers count_register)) why.Value (λ n. branch_if size s (slice_set s.registers count_register (d.num (one_less n))) (agrees (one_less n == 0) zero) condition target link)
+      need (d.number (register s.registers count_register)) why.Value
+      (λ n. branch_if size s (slice_set s.registers count_register (d.num (one_less n)))
+      (agrees (one_less n == 0) zero) condition target link)
 
   abbrev pub divide : ℕ → State V B T P → Sign → ℕ → V → V → Bool → Next (State V B T P)
   divide size s sign to x y rc =
-      need (d.number x) why.Value (λ a. need (d.number y) why.Value (λ b. need (quotient sign a b) why.Divide (λ q. Went (with_result size s to (d.num q) rc))))
+      need (d.number x) why.Value (λ a. need (d.number y) why.Value
+      (λ b. need (quotient sign a b) why.Divide (λ q. Went (with_result size s to (d.num q) rc))))
 
   -- One operation, of an instruction of so many bytes. A call of the system is no operation on the state alone.
   abbrev pub exec : ℕ → Permission → Operation → State V B T P → Next (State V B T P)

@@ -1,5 +1,28 @@
 -- The start of a machine on an executable's segments.
-use Rattle.std.specs.Prelude.{◌≡◌, ℕ, ◌-◌, ◌/◌, ◌%◌, true, false, ◌&&◌, ◌==◌, nat_le, nat_lt, List, [], ◌∷◌, ◌++◌, length, map, replicate, None, slice_index, slice_set, if◌then◌else◌}
+use Rattle.std.specs.Prelude.{
+  ◌≡◌,
+  ℕ,
+  ◌-◌,
+  ◌/◌,
+  ◌%◌,
+  true,
+  false,
+  ◌&&◌,
+  ◌==◌,
+  nat_le,
+  nat_lt,
+  List,
+  [],
+  ◌∷◌,
+  ◌++◌,
+  length,
+  map,
+  replicate,
+  None,
+  slice_index,
+  slice_set,
+  if◌then◌else◌,
+}
 use Rattle.elf64_exec.specs.declared.layout.Segment.{Segment}
 use Rattle.elf64_exec.specs.Executable.{end_of}
 use Rattle.elf64_exec.specs.Loading.{Loads}
@@ -22,14 +45,16 @@ start_ranges segments = map segment_range segments ++ stack_range ∷ []
 -- a segment's bytes, and zeros elsewhere
 abbrev pub start_byte : List Segment → ℕ → ℕ
 start_byte [] a = 0
-start_byte (s ∷ segments) a = if nat_le s.address a && nat_lt a (end_of s) then slice_index s.bytes (a - s.address) else start_byte segments a
+start_byte (s ∷ segments) a =
+    if nat_le s.address a && nat_lt a (end_of s) then slice_index s.bytes (a - s.address) else start_byte segments a
 
 -- r1 is the stack pointer, r12 the entry
 abbrev pub start_registers : ℕ → List ℕ
 start_registers entry = slice_set (slice_set (replicate 34 0) 1 0x7FFFF000) 12 entry
 
 abbrev pub start_state : ℕ → List Segment → NumberState
-start_state entry segments = record { at = entry; registers = start_registers entry; condition = replicate 32 false; byte = start_byte segments }
+start_state entry segments =
+    record { at = entry; registers = start_registers entry; condition = replicate 32 false; byte = start_byte segments }
 
 pub record IsStart (entry : ℕ) (segments : List Segment) (m : Machine) : Type 0 where
   pub state : state_of m.core ≡ start_state entry segments
@@ -39,7 +64,8 @@ pub record IsStart (entry : ℕ) (segments : List Segment) (m : Machine) : Type 
 
 -- a program at its start, in a world with this input and these answers
 abbrev pub start_run : ℕ → List Segment → List ℕ → List Answer → NumberRun
-start_run entry segments input answers = record { state = start_state entry segments; input = input; answers = answers; events = []; ended = None }
+start_run entry segments input answers =
+    record { state = start_state entry segments; input = input; answers = answers; events = []; ended = None }
 
 -- A file that is an executable, run from its start for at most so many steps, comes to this.
 pub record RunsTo (file input : List ℕ) (answers : List Answer) (n : ℕ) (progress : NumberProgress) : Type 0 where

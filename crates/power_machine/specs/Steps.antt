@@ -43,7 +43,14 @@ ReachesIn ranges n r p = Reaches (IsStep ranges) n r p
 
 -- what the structs stand for
 abbrev pub run_of : Machine → World → NumberRun
-run_of m w = record { state = state_of m.core; input = drop w.taken w.input.items; answers = drop w.used w.answers.items; events = m.events.items; ended = m.ended }
+run_of m w =
+    record {
+      state = state_of m.core;
+      input = drop w.taken w.input.items;
+      answers = drop w.used w.answers.items;
+      events = m.events.items;
+      ended = m.ended;
+    }
 
 abbrev pub machine_ranges : Machine → List Range
 machine_ranges m = core_ranges m.core

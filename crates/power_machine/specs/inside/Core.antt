@@ -20,4 +20,9 @@ pub record Did (next : Next NumberState) (old new : Core) (outcome : CoreOutcome
 -- what a call with this number asks for
 abbrev pub asked_in : ℕ → NumberState → Asked
 asked_in number s =
-    record { number = number; descriptor = register numbers s.registers 3; address = register numbers s.registers 4; length = register numbers s.registers 5 }
+    record {
+      number = number;
+      descriptor = register numbers s.registers 3;
+      address = register numbers s.registers 4;
+      length = register numbers s.registers 5;
+    }

@@ -5,7 +5,13 @@ use Rattle.power_machine.specs.declared.memory.Region.{Region}
 
 -- a segment's bytes with zeros behind them, and the stack
 abbrev pub region_of : Segment → Region
-region_of s = record { start = s.address; writable = s.flags / 2 % 2 == 1; executable = s.flags % 2 == 1; bytes = s.bytes ++ replicate (s.size - length s.bytes) 0 }
+region_of s =
+    record {
+      start = s.address;
+      writable = s.flags / 2 % 2 == 1;
+      executable = s.flags % 2 == 1;
+      bytes = s.bytes ++ replicate (s.size - length s.bytes) 0;
+    }
 
 unfoldable pub zeros : ℕ → List ℕ
 zeros n = replicate n 0

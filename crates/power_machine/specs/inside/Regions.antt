@@ -8,7 +8,11 @@ use Rattle.power_machine.specs.Memory.{holds, range_of, stop_of}
 -- the regions end at or below 2^31, are in order of their addresses, and none overlaps another
 pub record InOrder (regions : List Region) : Type 0 where
   pub low : (i : ℕ) (d : Region) → i < length regions → stop_of (slice_index_or regions i d) ≤ 0x80000000
-  pub apart : (i j : ℕ) (d : Region) → i < j → j < length regions → stop_of (slice_index_or regions i d) ≤ (slice_index_or regions j d).start
+  pub apart :
+      (i j : ℕ) (d : Region) →
+      i < j →
+      j < length regions →
+      stop_of (slice_index_or regions i d) ≤ (slice_index_or regions j d).start
 
 -- so many regions, those in front, begin at or below an address, and the others behind it
 pub record BeginBy (regions : List Region) (at count : ℕ) : Type 0 where

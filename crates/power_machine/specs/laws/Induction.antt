@@ -6,10 +6,13 @@ abbrev pub Steps : {S : Type 0} → (S → S → Type 0) → ℕ → S → S →
 Steps Step zero s s' = s ≡ s'
 Steps Step (suc n) s s' = (u : _) × Step s u × Steps Step n u s'
 
--- What the second does while the first takes so many steps. `waited` and `waits` are the steps that the first has taken since the second last
--- moved, before and after; `Sim` relates the states at such a number. Each step of the first allows `fast` of the second, each of the second
+-- What the second does while the first takes so many steps. `waited` and `waits` are the steps that the first has taken since the
+-- second last
+-- moved, before and after; `Sim` relates the states at such a number. Each step of the first allows `fast` of the second, each of the
+-- second
 -- `slow` of the first, and the second waits for no more than `most`.
-pub record Follows {S T : Type 0} (fast slow most : ℕ) (Step : T → T → Type 0) (Sim : ℕ → S → T → Type 0) (waited steps : ℕ) (s : S) (t : T) : Type 0 where
+pub record Follows {S T : Type 0} (fast slow most : ℕ) (Step : T → T → Type 0) (Sim : ℕ → S → T → Type 0)
+    (waited steps : ℕ) (s : S) (t : T) : Type 0 where
   pub count : ℕ
   pub waits : ℕ
   pub new : T
@@ -31,7 +34,11 @@ pub step_after : {S : Type 0} (Step : S → S → Type 0) (n : ℕ) (s u v : S) 
 step_after Step zero s u v h k = (v, subst (λ z. Step z v) (sym h) k, refl)
 step_after Step (suc n) s u v (w, first, rest) k = (w, first, step_after Step n w u v rest k)
 
-more_steps : (fast count count' waited n waits waits' : ℕ) → count + fast * waits ≤ fast * (waited + 1) → count' + fast * waits' ≤ fast * (waits + n) → count + count' + fast * waits' ≤ fast * (waited + suc n)
+more_steps :
+    (fast count count' waited n waits waits' : ℕ) →
+    count + fast * waits ≤ fast * (waited + 1) →
+    count' + fast * waits' ≤ fast * (waits + n) →
+    count + count' + fast * waits' ≤ fast * (waited + suc n)
 more_steps fast count count' waited n waits waits' h k =
     let e : fast * (waited + 1) ≡ fast * waited + fast * 1 = mul-add fast waited 1 in
     let f : fast * (waits + n) ≡ fast * waits + fast * n = mul-add fast waits n in
@@ -39,7 +46,11 @@ more_steps fast count count' waited n waits waits' h k =
     let i : fast * (1 + n) ≡ fast * 1 + fast * n = mul-add fast 1 n in
     omega (arith, h, k, e, f, g, i)
 
-less_steps : (slow count count' waited n waits waits' : ℕ) → waited + 1 ≤ slow * count + waits → waits + n ≤ slow * count' + waits' → waited + suc n ≤ slow * (count + count') + waits'
+less_steps :
+    (slow count count' waited n waits waits' : ℕ) →
+    waited + 1 ≤ slow * count + waits →
+    waits + n ≤ slow * count' + waits' →
+    waited + suc n ≤ slow * (count + count') + waits'
 less_steps slow count count' waited n waits waits' h k =
     let e : slow * (count + count') ≡ slow * count + slow * count' = mul-add slow count count' in
     omega (arith, h, k, e)
@@ -50,7 +61,13 @@ module _ {S T : Type 0} (First : S → S → Type 0) (Second : T → T → Type 
   OneStep = (waited : ℕ) (s s' : S) (t : T) → waited ≤ most → Sim waited s t → First s s' → Follows fast slow most Second Sim waited 1 s' t
 
   -- so does each number of steps
-  pub steps_followed : OneStep → (n waited : ℕ) (s s' : S) (t : T) → waited ≤ most → Sim waited s t → Steps First n s s' → Follows fast slow most Second Sim waited n s' t
+  pub steps_followed :
+      OneStep →
+      (n waited : ℕ) (s s' : S) (t : T) →
+      waited ≤ most →
+      Sim waited s t →
+      Steps First n s s' →
+      Follows fast slow most Second Sim waited n s' t
   steps_followed law zero waited s s' t few sim h = record {
     count = 0;
     waits = waited;
@@ -76,7 +93,12 @@ module _ {S T : Type 0} (First : S → S → Type 0) (Second : T → T → Type 
       }
 
   -- Where the second waits for nothing at the start, m steps of it follow n of the first with m ≤ fast * n and n ≤ slow * m + most.
-  pub both_bounds : OneStep → (n : ℕ) (s s' : S) (t : T) → Sim 0 s t → Steps First n s s' → (m : ℕ) × (waits : ℕ) × (t' : T) × Steps Second m t t' × Sim waits s' t' × (m ≤ fast * n) × (n ≤ slow * m + most)
+  pub both_bounds :
+      OneStep →
+      (n : ℕ) (s s' : S) (t : T) →
+      Sim 0 s t →
+      Steps First n s s' →
+      (m : ℕ) × (waits : ℕ) × (t' : T) × Steps Second m t t' × Sim waits s' t' × (m ≤ fast * n) × (n ≤ slow * m + most)
   both_bounds law n s s' t sim h =
       let f = steps_followed law n 0 s s' t (omega arith) sim h in
       let e : 0 + n ≡ n = omega arith in

@@ -1,5 +1,26 @@
 -- What an operation leaves as it is.
-use Rattle.std.proofs.Common.{◌≡◌, ◌≢◌, ℕ, List, length, map, Bool, true, false, Option, Some, None, refl, sym, ap, ◌∙◌, subst, get_or-set_other, slice_index_or, slice_set}
+use Rattle.std.proofs.Common.{
+  ◌≡◌,
+  ◌≢◌,
+  ℕ,
+  List,
+  length,
+  map,
+  Bool,
+  true,
+  false,
+  Option,
+  Some,
+  None,
+  refl,
+  sym,
+  ap,
+  ◌∙◌,
+  subst,
+  get_or-set_other,
+  slice_index_or,
+  slice_set,
+}
 use Rattle.std.proofs.lemmas.List.{length-set}
 use Rattle.power_insns.specs.declared.meaning.Operation.{Operation}
 use Rattle.power_insns.specs.declared.meaning.Operation.TheVariants.{Copy, Calculate, Divide, Compare, Load, Store, Branch, System}
@@ -32,14 +53,18 @@ registers_kept r us = record {
 }
 
 -- one memory, which is as at the start if nothing is stored
-same_memories : {V B T P : Type 0} (d : Domain V B T P) (permission : Permission) → Memories d d (◌≡◌ {A = V}) (◌≡◌ {A = B}) permission (Unit {0}) (Unit {0}) (λ f g. f ≡ g)
+same_memories :
+    {V B T P : Type 0} (d : Domain V B T P) (permission : Permission) →
+    Memories d d (◌≡◌ {A = V}) (◌≡◌ {A = B}) permission (Unit {0}) (Unit {0}) (λ f g. f ≡ g)
 same_memories d permission = record {
   loaded = λ loads f g a count ok h. pairwise_same _ _ (ap (λ m. bytes_from m a count) h);
   stored = λ stores f g width a x y ok r h. ap (λ m. put m a (d.split width x)) h ∙ ap (λ z. put g a (d.split width z)) r;
   filled = λ stores f g a count bytes short ok h. ap (λ m. put m a (map d.byte bytes)) h;
 }
 
-bytes_kept : {V B T P : Type 0} (d : Domain V B T P) (permission : Permission) (start : ℕ → B) → Memories d d (◌≡◌ {A = V}) (◌≡◌ {A = B}) permission (Unit {0}) ⊥ (λ f g. (f ≡ g) × (f ≡ start))
+bytes_kept :
+    {V B T P : Type 0} (d : Domain V B T P) (permission : Permission) (start : ℕ → B) →
+    Memories d d (◌≡◌ {A = V}) (◌≡◌ {A = B}) permission (Unit {0}) ⊥ (λ f g. (f ≡ g) × (f ≡ start))
 bytes_kept d permission start = record {
   loaded = λ loads f g a count ok h. pairwise_same _ _ (ap (λ m. bytes_from m a count) h.0);
   stored = λ none f g width a x y ok r h. absurd none;
@@ -53,17 +78,35 @@ same_registers = record {
 }
 
 -- A register that an operation doesn't write keeps what it holds, and there are as many registers as before.
-pub exec_keeps_register : {V B T P : Type 0} (d : Domain V B T P) (size : ℕ) (permission : Permission) (op : Operation) (s s' : State V B T P) (r : ℕ) → ¬ Writes op r → exec d size permission op s ≡ Went s' → ((z : V) → slice_index_or s'.registers r z ≡ slice_index_or s.registers r z) × (length s'.registers ≡ length s.registers)
+pub exec_keeps_register :
+    {V B T P : Type 0} (d : Domain V B T P) (size : ℕ) (permission : Permission) (op : Operation)
+    (s s' : State V B T P) (r : ℕ) →
+    ¬ Writes op r →
+    exec d size permission op s ≡ Went s' →
+    ((z : V) → slice_index_or s'.registers r z ≡ slice_index_or s.registers r z) × (length s'.registers ≡ length s.registers)
 exec_keeps_register {T} {P} d size permission op s s' r unwritten w =
-    let may : Confined (λ q. Unit {0}) (λ q. q ≢ r) (Unit {0}) (Unit {0}) op = record { reads = λ q h. tt; writes = λ q h e. unwritten (subst (Writes op) e h); loads = λ h. tt; stores = λ h. tt } in
-    let m = exec_match (equality_related d) (registers_kept r s.registers) (same_memories d permission) (same_permission permission) size op s s' s may
-    (record { at = refl; registers = record { same = refl; long = refl; kept = λ z. refl }; condition = pairwise_same _ _ refl; byte = refl }) w in
+    let may : Confined (λ q. Unit {0}) (λ q. q ≢ r) (Unit {0}) (Unit {0}) op = record
+    { reads = λ q h. tt; writes = λ q h e. unwritten (subst (Writes op) e h); loads = λ h. tt; stores = λ h. tt } in
+    let m = exec_match (equality_related d) (registers_kept r s.registers) (same_memories d permission)
+    (same_permission permission) size op s s' s may
+    (record {
+      at = refl;
+      registers = record { same = refl; long = refl; kept = λ z. refl };
+      condition = pairwise_same _ _ refl;
+      byte = refl;
+    }) w in
     (m.2.registers.kept, m.2.registers.long)
 
 -- Memory is as it was after an operation that isn't a store.
-pub exec_keeps_memory : {V B T P : Type 0} (d : Domain V B T P) (size : ℕ) (permission : Permission) (op : Operation) (s s' : State V B T P) → access_of op ≢ memory.Store → exec d size permission op s ≡ Went s' → s'.byte ≡ s.byte
+pub exec_keeps_memory :
+    {V B T P : Type 0} (d : Domain V B T P) (size : ℕ) (permission : Permission) (op : Operation)
+    (s s' : State V B T P) →
+    access_of op ≢ memory.Store →
+    exec d size permission op s ≡ Went s' →
+    s'.byte ≡ s.byte
 exec_keeps_memory d size permission op s s' unstored w =
-    let may : Confined (λ q. Unit {0}) (λ q. Unit {0}) (Unit {0}) ⊥ op = record { reads = λ q h. tt; writes = λ q h. tt; loads = λ h. tt; stores = λ h. absurd (unstored h) } in
+    let may : Confined (λ q. Unit {0}) (λ q. Unit {0}) (Unit {0}) ⊥ op = record
+    { reads = λ q h. tt; writes = λ q h. tt; loads = λ h. tt; stores = λ h. absurd (unstored h) } in
     let m = exec_match (equality_related d) same_registers (bytes_kept d permission s.byte) (same_permission permission) size op s s' s may
     (record { at = refl; registers = refl; condition = pairwise_same _ _ refl; byte = (refl, refl) }) w in
     m.2.byte.1
@@ -77,29 +120,48 @@ abbrev GoesTo : {V B T P : Type 0} → P → Next (State V B T P) → Type 0
 GoesTo p (Went s) = s.at ≡ p
 GoesTo p (Left reason) = Unit {0}
 
-need_goes : {V B T P X : Type 0} (p : P) (o : Option X) (reason : Reason) (go : X → Next (State V B T P)) → ((x : X) → GoesTo p (go x)) → GoesTo p (need o reason go)
+need_goes :
+    {V B T P X : Type 0} (p : P) (o : Option X) (reason : Reason) (go : X → Next (State V B T P)) →
+    ((x : X) → GoesTo p (go x)) →
+    GoesTo p (need o reason go)
 need_goes p None reason go h = tt
 need_goes p (Some x) reason go h = h x
 
-check_goes : {V B T P : Type 0} (p : P) (b : Bool) (reason : Reason) (go : Next (State V B T P)) → GoesTo p go → GoesTo p (check b reason go)
+check_goes :
+    {V B T P : Type 0} (p : P) (b : Bool) (reason : Reason) (go : Next (State V B T P)) →
+    GoesTo p go →
+    GoesTo p (check b reason go)
 check_goes p true reason go h = h
 check_goes p false reason go h = tt
 
-exec_goes : {V B T P : Type 0} (d : Domain V B T P) (size : ℕ) (permission : Permission) (op : Operation) (s : State V B T P) → is_branch op ≡ false → GoesTo (d.ahead s.at size) (exec d size permission op s)
+exec_goes :
+    {V B T P : Type 0} (d : Domain V B T P) (size : ℕ) (permission : Permission) (op : Operation)
+    (s : State V B T P) →
+    is_branch op ≡ false →
+    GoesTo (d.ahead s.at size) (exec d size permission op s)
 exec_goes d size permission (Copy to from rc) s h = refl
 exec_goes d size permission (Calculate f to x y rc) s h = refl
 exec_goes d size permission (Divide sign to x y rc) s h =
-    need_goes (d.ahead s.at size) (d.number (value_of d s x)) why.Value _ (λ a. need_goes (d.ahead s.at size) (d.number (value_of d s y)) why.Value _ (λ b. need_goes (d.ahead s.at size) (quotient sign a b) why.Divide _ (λ q. refl)))
+    need_goes (d.ahead s.at size) (d.number (value_of d s x)) why.Value _
+    (λ a. need_goes (d.ahead s.at size) (d.number (value_of d s y)) why.Value _
+    (λ b. need_goes (d.ahead s.at size) (quotient sign a b) why.Divide _ (λ q. refl)))
 exec_goes d size permission (Compare field width sign x y) s h = refl
 exec_goes d size permission (Load width sign to base offset) s h =
-    need_goes (d.ahead s.at size) (d.number (value_of d s base)) why.Value _ (λ b. need_goes (d.ahead s.at size) (d.number (value_of d s offset)) why.Value _
+    need_goes (d.ahead s.at size) (d.number (value_of d s base)) why.Value _
+    (λ b. need_goes (d.ahead s.at size) (d.number (value_of d s offset)) why.Value _
     (λ o. check_goes (d.ahead s.at size) (permission Loading (sum_address b o) (bytes_of width)) why.Load _ refl))
 exec_goes d size permission (Store width from base offset update) s h =
-    need_goes (d.ahead s.at size) (d.number (value_of d s base)) why.Value _ (λ b. need_goes (d.ahead s.at size) (d.number (value_of d s offset)) why.Value _
+    need_goes (d.ahead s.at size) (d.number (value_of d s base)) why.Value _
+    (λ b. need_goes (d.ahead s.at size) (d.number (value_of d s offset)) why.Value _
     (λ o. check_goes (d.ahead s.at size) (permission Storing (sum_address b o) (bytes_of width)) why.Store _ refl))
 exec_goes d size permission (Branch counter condition target link) s h = cc
 exec_goes d size permission System s h = tt
 
 -- An operation that is no branch goes on at the next instruction.
-pub exec_goes_on : {V B T P : Type 0} (d : Domain V B T P) (size : ℕ) (permission : Permission) (op : Operation) (s s' : State V B T P) → is_branch op ≡ false → exec d size permission op s ≡ Went s' → s'.at ≡ d.ahead s.at size
+pub exec_goes_on :
+    {V B T P : Type 0} (d : Domain V B T P) (size : ℕ) (permission : Permission) (op : Operation)
+    (s s' : State V B T P) →
+    is_branch op ≡ false →
+    exec d size permission op s ≡ Went s' →
+    s'.at ≡ d.ahead s.at size
 exec_goes_on d size permission op s s' straight w = subst (GoesTo (d.ahead s.at size)) w (exec_goes d size permission op s straight)

@@ -1,5 +1,31 @@
 -- Laws of runs, over every kind of value and every way of taking a step.
-use Rattle.std.proofs.Common.{◌≡◌, ◌≤◌, ℕ, zero, suc, Bool, true, false, ◌==◌, ◌||◌, cond, List, [], ◌∷◌, ◌++◌, Option, Some, None, refl, sym, ap, ◌∙◌, subst, arith, ⊎_elim}
+use Rattle.std.proofs.Common.{
+  ◌≡◌,
+  ◌≤◌,
+  ℕ,
+  zero,
+  suc,
+  Bool,
+  true,
+  false,
+  ◌==◌,
+  ◌||◌,
+  cond,
+  List,
+  [],
+  ◌∷◌,
+  ◌++◌,
+  Option,
+  Some,
+  None,
+  refl,
+  sym,
+  ap,
+  ◌∙◌,
+  subst,
+  arith,
+  ⊎_elim,
+}
 use Rattle.std.proofs.lemmas.Bool.{cases_lt}
 use Rattle.std.proofs.lemmas.List.{append-nil}
 use Rattle.power_insns.specs.declared.meaning.Operation.{Operation}
@@ -11,8 +37,43 @@ use Rattle.power_machine.specs.declared.world.Answer.{Answer}
 use Rattle.power_machine.specs.declared.world.Event.{Event}
 use Rattle.power_machine.specs.Memory.{Permission, allows_range, bytes_from}
 use Rattle.power_machine.specs.Machines.{Domain, State, Next, Went, Left, need, check, state_after, exec}
-use Rattle.power_machine.specs.Calls.{Run, Asked, event_of, first_answer, granted, number_in, numbers_in, after_write, after_read, asking, read_by, reads, write_by, writes, ended_by, exits, call_by, calls}
-use Rattle.power_machine.specs.Runs.{Progress, Going, Done, Gone, begun, progress_of, StepsFrom, Steps, OneMore, Reaches, Continues, Grows, is_call, next_of, operates}
+use Rattle.power_machine.specs.Calls.{
+  Run,
+  Asked,
+  event_of,
+  first_answer,
+  granted,
+  number_in,
+  numbers_in,
+  after_write,
+  after_read,
+  asking,
+  read_by,
+  reads,
+  write_by,
+  writes,
+  ended_by,
+  exits,
+  call_by,
+  calls,
+}
+use Rattle.power_machine.specs.Runs.{
+  Progress,
+  Going,
+  Done,
+  Gone,
+  begun,
+  progress_of,
+  StepsFrom,
+  Steps,
+  OneMore,
+  Reaches,
+  Continues,
+  Grows,
+  is_call,
+  next_of,
+  operates,
+}
 use Rattle.power_machine.specs.laws.Induction.{Steps as ManySteps}
 
 module _ {V B T P : Type 0} (Step : Run V B T P → Next (Run V B T P) → Type 0) where
@@ -47,11 +108,19 @@ module _ {V B T P : Type 0} (Step : Run V B T P → Next (Run V B T P) → Type 
   went_one r u h = cc
 
   -- one more step of a run that has ended with this status, or of one that goes on
-  more_from : (u v : Run V B T P) (o : Option ℕ) → u.ended ≡ o → StepsFrom Step u o (Went v) → Continues Step u v → OneMore Step (begun u o) (begun v v.ended)
+  more_from :
+      (u v : Run V B T P) (o : Option ℕ) →
+      u.ended ≡ o →
+      StepsFrom Step u o (Went v) →
+      Continues Step u v →
+      OneMore Step (begun u o) (begun v v.ended)
   more_from u v None h step steps = (Went v, steps, refl)
   more_from u v (Some status) h step steps = let same = went_one v u step in ap (λ w. begun w w.ended) same ∙ ap (begun u) h
 
-  last_step : (n : ℕ) (s v : Run V B T P) → ManySteps (Continues Step) (suc n) s v → (u : Run V B T P) × ManySteps (Continues Step) n s u × Continues Step u v
+  last_step :
+      (n : ℕ) (s v : Run V B T P) →
+      ManySteps (Continues Step) (suc n) s v →
+      (u : Run V B T P) × ManySteps (Continues Step) n s u × Continues Step u v
   last_step zero s v (w, first, same) = (s, refl, subst (λ z. Continues Step s z) same first)
   last_step (suc n) s v (w, first, rest) = let l = last_step n w v rest in (l.0, (w, first, l.1), l.2)
 
@@ -64,7 +133,13 @@ module _ {V B T P : Type 0} (Step : Run V B T P → Next (Run V B T P) → Type 
       (begun u u.ended, steps_reach n r u l.1, more_from u v u.ended refl l.2 l.2)
 
   -- a run that is over stays over
-  pub over_stays : (old : Run V B T P) (p : Progress V B T P) → OneMore Step p p → (n m : ℕ) → n ≤ m → Reaches Step n old p → Reaches Step m old p
+  pub over_stays :
+      (old : Run V B T P) (p : Progress V B T P) →
+      OneMore Step p p →
+      (n m : ℕ) →
+      n ≤ m →
+      Reaches Step n old p →
+      Reaches Step m old p
   over_stays old p over n zero le h = let e : n ≡ 0 = omega arith in subst (λ k. Reaches Step k old p) e h
   over_stays old p over n (suc m) le h =
       ⊎_elim
@@ -80,7 +155,10 @@ pub no_more : (events : List Event) → Grows events events
 no_more events = ([], sym (append-nil events))
 
 module _ {V B T P : Type 0} (d : Domain V B T P) (r : Run V B T P) where
-  by_need : {A : Type 0} (o : Option A) (reason : Reason) (go : A → Next (Run V B T P)) → ((a : A) → GrowsBy r (go a)) → GrowsBy r (need o reason go)
+  by_need :
+      {A : Type 0} (o : Option A) (reason : Reason) (go : A → Next (Run V B T P)) →
+      ((a : A) → GrowsBy r (go a)) →
+      GrowsBy r (need o reason go)
   by_need None reason go h = no_more r.events
   by_need (Some a) reason go h = h a
 
@@ -96,22 +174,33 @@ module _ {V B T P : Type 0} (d : Domain V B T P) (r : Run V B T P) where
   by_next (Went s) = no_more r.events
   by_next (Left reason) = no_more r.events
 
-  by_asking : (may : Permission) (purpose : Purpose) (reason : Reason) (number : ℕ) (go : Asked → Next (Run V B T P)) → ((k : Asked) → GrowsBy r (go k)) → GrowsBy r (asking d may purpose reason number r go)
+  by_asking :
+      (may : Permission) (purpose : Purpose) (reason : Reason) (number : ℕ) (go : Asked → Next (Run V B T P)) →
+      ((k : Asked) → GrowsBy r (go k)) →
+      GrowsBy r (asking d may purpose reason number r go)
   by_asking may purpose reason number go h =
-      by_need (number_in d r 4) why.Value _ (λ address. by_need (number_in d r 5) why.Value _ (λ count. by_check (allows_range may purpose address count) reason _
-      (by_need (number_in d r 3) why.Value _ (λ descriptor. h (record { number = number; descriptor = descriptor; address = address; length = count })))))
+      by_need (number_in d r 4) why.Value _
+      (λ address. by_need (number_in d r 5) why.Value _ (λ count. by_check (allows_range may purpose address count) reason _
+      (by_need (number_in d r 3) why.Value _
+      (λ descriptor. h (record { number = number; descriptor = descriptor; address = address; length = count })))))
 
   by_write : (a : Answer) (k : Asked) → GrowsBy r (write_by d r a k)
   by_write a k =
-      by_need (numbers_in d (bytes_from r.state.byte k.address (granted a k.length))) why.Value (λ bytes. Went (after_write d r k a bytes)) (λ bytes. (event_of k a bytes ∷ [], refl))
+      by_need (numbers_in d (bytes_from r.state.byte k.address (granted a k.length))) why.Value
+      (λ bytes. Went (after_write d r k a bytes)) (λ bytes. (event_of k a bytes ∷ [], refl))
 
   by_call : (may : Permission) (number : ℕ) → GrowsBy r (call_by d may r number)
   by_call may number =
       by_either (number == 1 || number == 234) (exits d r) _ (by_need (number_in d r 3) why.Value _ (λ n. no_more r.events))
-      (by_either (number == 3) (reads d may r) _ (by_asking may Storing why.Store 3 (read_by d r (first_answer r.answers)) (λ k. (event_of k (first_answer r.answers) _ ∷ [], refl)))
-      (by_either (number == 4) (writes d may r) (Left why.Call) (by_asking may Loading why.Load 4 (write_by d r (first_answer r.answers)) (by_write (first_answer r.answers))) (no_more r.events)))
+      (by_either (number == 3) (reads d may r) _
+      (by_asking may Storing why.Store 3 (read_by d r (first_answer r.answers))
+      (λ k. (event_of k (first_answer r.answers) _ ∷ [], refl)))
+      (by_either (number == 4) (writes d may r) (Left why.Call)
+      (by_asking may Loading why.Load 4 (write_by d r (first_answer r.answers)) (by_write (first_answer r.answers)))
+      (no_more r.events)))
 
   -- Calls that were made stay made.
   pub operates_grows : (may : Permission) (size : ℕ) (op : Operation) → GrowsBy r (operates d may r size op)
   operates_grows may size op =
-      by_either (is_call op) (calls d may r) (next_of r (exec d size may op r.state)) (by_need (number_in d r 0) why.Value _ (by_call may)) (by_next (exec d size may op r.state))
+      by_either (is_call op) (calls d may r) (next_of r (exec d size may op r.state))
+      (by_need (number_in d r 0) why.Value _ (by_call may)) (by_next (exec d size may op r.state))

@@ -41,7 +41,8 @@ one_code ranges byte at (TwoWords i) (OneWord j) h k = absurd (h.1 j k.1)
 one_code ranges byte at (TwoWords i) (TwoWords j) h k = ap TwoWords (one_pair i j h.3.0 k.3.0 (h.3.1 ∙ sym k.3.1) (h.3.2 ∙ sym k.3.2))
 
 pub steps_once : (ranges : List Range) → StepsOnce (IsStep ranges)
-steps_once ranges r n m h k = h.is ∙ ap (step_over ranges r) (one_code ranges r.state.byte r.state.at h.code k.code h.stands k.stands) ∙ sym k.is
+steps_once ranges r n m h k =
+    h.is ∙ ap (step_over ranges r) (one_code ranges r.state.byte r.state.at h.code k.code h.stands k.stands) ∙ sym k.is
 
 code_grows : (ranges : List Range) (r : NumberRun) (code : Code) → GrowsBy r (step_over ranges r code)
 code_grows ranges r Unfetched = no_more r.events
@@ -53,15 +54,26 @@ from_grows : (ranges : List Range) (r : NumberRun) (o : Option ℕ) (n : Next Nu
 from_grows ranges r (Some status) n h = subst (GrowsBy r) (sym h) (no_more r.events)
 from_grows ranges r None n h = subst (GrowsBy r) (sym h.is) (code_grows ranges r h.code)
 
-pub steps_grow : (ranges : List Range) (r : NumberRun) (n : Next NumberRun) → Steps (IsStep ranges) r n → Grows r.events (state_after n r).events
+pub steps_grow :
+    (ranges : List Range) (r : NumberRun) (n : Next NumberRun) →
+    Steps (IsStep ranges) r n →
+    Grows r.events (state_after n r).events
 steps_grow ranges r n h = from_grows ranges r r.ended n h
 
 -- one progress after at most so many steps
-pub one_progress_in : (ranges : List Range) (n : ℕ) (r : NumberRun) (p p' : NumberProgress) → ReachesIn ranges n r p → ReachesIn ranges n r p' → p ≡ p'
+pub one_progress_in :
+    (ranges : List Range) (n : ℕ) (r : NumberRun) (p p' : NumberProgress) →
+    ReachesIn ranges n r p →
+    ReachesIn ranges n r p' →
+    p ≡ p'
 one_progress_in ranges n r p p' h k = one_progress (IsStep ranges) (steps_once ranges) n r p p' h k
 
 -- An executable comes to one progress in at most so many steps.
-pub one_run : (file input : List ℕ) (answers : List Answer) (n : ℕ) (p p' : NumberProgress) → RunsTo file input answers n p → RunsTo file input answers n p' → p ≡ p'
+pub one_run :
+    (file input : List ℕ) (answers : List Answer) (n : ℕ) (p p' : NumberProgress) →
+    RunsTo file input answers n p →
+    RunsTo file input answers n p' →
+    p ≡ p'
 one_run file input answers n p p' a b =
     let entries : a.entry ≡ b.entry = a.loads.entry_is ∙ sym b.loads.entry_is in
     let lists : a.segments ≡ b.segments = a.loads.segments_are ∙ sym b.loads.segments_are in

@@ -1,5 +1,30 @@
 -- Operations that stand one behind the other, what they leave as it is, and loads and stores that may be made before them.
-use Rattle.std.proofs.Common.{◌≡◌, ◌≢◌, ◌⊎◌, ℕ, zero, suc, Bool, true, false, List, [], ◌∷◌, length, None, ⊎_elim, refl, sym, ap, ◌∙◌, subst, arith, get_or-set_other, slice_index_or, slice_set}
+use Rattle.std.proofs.Common.{
+  ◌≡◌,
+  ◌≢◌,
+  ◌⊎◌,
+  ℕ,
+  zero,
+  suc,
+  Bool,
+  true,
+  false,
+  List,
+  [],
+  ◌∷◌,
+  length,
+  None,
+  ⊎_elim,
+  refl,
+  sym,
+  ap,
+  ◌∙◌,
+  subst,
+  arith,
+  get_or-set_other,
+  slice_index_or,
+  slice_set,
+}
 use Rattle.std.proofs.lemmas.List.{length-set}
 use Rattle.power_insns.specs.declared.instruction.Insn.TheVariants.{Ori}
 use Rattle.power_insns.specs.declared.meaning.Width.{Width}
@@ -41,20 +66,38 @@ abbrev pub AllAre : (Operation → Type 0) → List Sized → Type 0
 AllAre Is [] = Unit {0}
 AllAre Is (x ∷ xs) = Is x.operation × AllAre Is xs
 
-after_simulated : {S T : Type 0} (R : S → T → Type 0) (next : Next S) (next' : Next T) (go : S → Next S) (go' : T → Next T) → Simulated R next next' → ((s : S) (t : T) → R s t → Simulated R (go s) (go' t)) → Simulated R (after next go) (after next' go')
+after_simulated :
+    {S T : Type 0} (R : S → T → Type 0) (next : Next S) (next' : Next T) (go : S → Next S) (go' : T → Next T) →
+    Simulated R next next' →
+    ((s : S) (t : T) → R s t → Simulated R (go s) (go' t)) →
+    Simulated R (after next go) (after next' go')
 after_simulated R (Left reason) next' go go' h k = tt
 after_simulated R (Went s) (Left reason) go go' h k = absurd h
 after_simulated R (Went s) (Went t) go go' h k = k s t h
 
-module _ {V B T P V' B' T' P' : Type 0} {d : Domain V B T P} {e : Domain V' B' T' P'} {RV : V → V' → Type 0} {RB : B → B' → Type 0} {RT : T → T' → Type 0} {RP : P → P' → Type 0} (laws : Related d e RV RB RT RP) {MayRead MayWrite : ℕ → Type 0} {RR : List V → List V' → Type 0} (files : Registers RV MayRead MayWrite RR) {ps pt : Permission} {Loads Stores : Type 0} {RM : (ℕ → B) → (ℕ → B') → Type 0} (memories : Memories d e RV RB ps Loads Stores RM) (more : AllowsMore ps pt) where
+module _ {V B T P V' B' T' P' : Type 0} {d : Domain V B T P} {e : Domain V' B' T' P'} {RV : V → V' → Type 0}
+    {RB : B → B' → Type 0} {RT : T → T' → Type 0} {RP : P → P' → Type 0} (laws : Related d e RV RB RT RP)
+    {MayRead MayWrite : ℕ → Type 0} {RR : List V → List V' → Type 0} (files : Registers RV MayRead MayWrite RR)
+    {ps pt : Permission} {Loads Stores : Type 0} {RM : (ℕ → B) → (ℕ → B') → Type 0}
+    (memories : Memories d e RV RB ps Loads Stores RM) (more : AllowsMore ps pt) where
   -- What the first does over many operations the second does.
-  pub all_simulated : (xs : List Sized) (s : State V B T P) (t : State V' B' T' P') → AllAre (Confined MayRead MayWrite Loads Stores) xs → Match RT RP RR RM s t → Simulated (Match RT RP RR RM) (exec_all d ps xs s) (exec_all e pt xs t)
+  pub all_simulated :
+      (xs : List Sized) (s : State V B T P) (t : State V' B' T' P') →
+      AllAre (Confined MayRead MayWrite Loads Stores) xs →
+      Match RT RP RR RM s t →
+      Simulated (Match RT RP RR RM) (exec_all d ps xs s) (exec_all e pt xs t)
   all_simulated [] s t c h = h
   all_simulated (x ∷ xs) s t c h =
-      after_simulated (Match RT RP RR RM) (exec d x.size ps x.operation s) (exec e x.size pt x.operation t) (exec_all d ps xs) (exec_all e pt xs)
+      after_simulated (Match RT RP RR RM) (exec d x.size ps x.operation s) (exec e x.size pt x.operation t)
+      (exec_all d ps xs) (exec_all e pt xs)
       (exec_simulated laws files memories more x.size x.operation s t c.0 h) (λ u v m. all_simulated xs u v c.1 m)
 
-set_agrees : {V : Type 0} (xs ys : List V) (i : ℕ) (x y : V) (j : ℕ) (z : V) → length xs ≡ length ys → x ≡ y → slice_index_or xs j z ≡ slice_index_or ys j z → slice_index_or (slice_set xs i x) j z ≡ slice_index_or (slice_set ys i y) j z
+set_agrees :
+    {V : Type 0} (xs ys : List V) (i : ℕ) (x y : V) (j : ℕ) (z : V) →
+    length xs ≡ length ys →
+    x ≡ y →
+    slice_index_or xs j z ≡ slice_index_or ys j z →
+    slice_index_or (slice_set xs i x) j z ≡ slice_index_or (slice_set ys i y) j z
 set_agrees [] [] i x y j z long e h = h
 set_agrees [] (b ∷ ys) i x y j z long e h = cc
 set_agrees (a ∷ xs) [] i x y j z long e h = cc
@@ -63,14 +106,17 @@ set_agrees (a ∷ xs) (b ∷ ys) zero x y (suc j) z long e h = h
 set_agrees (a ∷ xs) (b ∷ ys) (suc i) x y zero z long e h = h
 set_agrees (a ∷ xs) (b ∷ ys) (suc i) x y (suc j) z long e h = set_agrees xs ys i x y j z (omega arith) e h
 
--- the register files now, xs and ys: the same at registers that may be read, and as at the start, us and vs, at those that may not be written
+-- the register files now, xs and ys: the same at registers that may be read, and as at the start, us and vs, at those that may not be
+-- written
 pub record Aside {V : Type 0} (MayRead MayWrite : ℕ → Type 0) (us vs xs ys : List V) : Type 0 where
   pub long : length xs ≡ length ys
   pub agree : (r : ℕ) (z : V) → MayRead r → slice_index_or xs r z ≡ slice_index_or ys r z
   pub first : (r : ℕ) (z : V) → ¬ MayWrite r → slice_index_or xs r z ≡ slice_index_or us r z
   pub second : (r : ℕ) (z : V) → ¬ MayWrite r → slice_index_or ys r z ≡ slice_index_or vs r z
 
-pub aside_registers : {V : Type 0} (MayRead MayWrite : ℕ → Type 0) (us vs : List V) → Registers (◌≡◌ {A = V}) MayRead MayWrite (Aside MayRead MayWrite us vs)
+pub aside_registers :
+    {V : Type 0} (MayRead MayWrite : ℕ → Type 0) (us vs : List V) →
+    Registers (◌≡◌ {A = V}) MayRead MayWrite (Aside MayRead MayWrite us vs)
 aside_registers MayRead MayWrite us vs = record {
   get = λ xs ys r x y may e h. h.agree r x may ∙ ap (slice_index_or ys r) e;
   set = λ xs ys r x y may e h. record {
@@ -85,7 +131,9 @@ aside_registers MayRead MayWrite us vs = record {
 abbrev pub Unstored : {B : Type 0} → (ℕ → B) → (ℕ → B) → (ℕ → B) → (ℕ → B) → Type 0
 Unstored f g f' g' = (f' ≡ f) × (g' ≡ g)
 
-pub unstored_memories : {V B T P : Type 0} (d : Domain V B T P) (permission : Permission) (f g : ℕ → B) → Memories d d (◌≡◌ {A = V}) (◌≡◌ {A = B}) permission (f ≡ g) ⊥ (Unstored f g)
+pub unstored_memories :
+    {V B T P : Type 0} (d : Domain V B T P) (permission : Permission) (f g : ℕ → B) →
+    Memories d d (◌≡◌ {A = V}) (◌≡◌ {A = B}) permission (f ≡ g) ⊥ (Unstored f g)
 unstored_memories d permission f g = record {
   loaded = λ same f' g' a count ok h. pairwise_same _ _ (ap (λ m. bytes_from m a count) (h.0 ∙ same ∙ sym h.1));
   stored = λ none f' g' width a x y ok r h. absurd none;
@@ -93,11 +141,29 @@ unstored_memories d permission f g = record {
 }
 
 -- Two states of one machine that agree at the registers that may be read go on so, and the registers that may not be written stay.
-pub all_aside : {V B T P : Type 0} (d : Domain V B T P) (permission : Permission) (MayRead MayWrite : ℕ → Type 0) (xs : List Sized) (s s' t : State V B T P) → AllAre (Confined MayRead MayWrite (s.byte ≡ t.byte) ⊥) xs → s.at ≡ t.at → s.condition ≡ t.condition → length s.registers ≡ length t.registers → ((r : ℕ) (z : V) → MayRead r → slice_index_or s.registers r z ≡ slice_index_or t.registers r z) → exec_all d permission xs s ≡ Went s' → (t' : State V B T P) × (exec_all d permission xs t ≡ Went t') × Match (◌≡◌ {A = T}) (◌≡◌ {A = P}) (Aside MayRead MayWrite s.registers t.registers) (Unstored s.byte t.byte) s' t'
+pub all_aside :
+    {V B T P : Type 0} (d : Domain V B T P) (permission : Permission) (MayRead MayWrite : ℕ → Type 0)
+    (xs : List Sized) (s s' t : State V B T P) →
+    AllAre (Confined MayRead MayWrite (s.byte ≡ t.byte) ⊥) xs →
+    s.at ≡ t.at →
+    s.condition ≡ t.condition →
+    length s.registers ≡ length t.registers →
+    ((r : ℕ) (z : V) → MayRead r → slice_index_or s.registers r z ≡ slice_index_or t.registers r z) →
+    exec_all d permission xs s ≡ Went s' →
+    (t' : State V B T P) × (exec_all d permission xs t ≡ Went t') × Match (◌≡◌ {A = T}) (◌≡◌ {A = P})
+    (Aside MayRead MayWrite s.registers t.registers) (Unstored s.byte t.byte) s' t'
 all_aside {T} {P} d permission MayRead MayWrite xs s s' t c at condition long agree w =
-    went_simulated (Match (◌≡◌ {A = T}) (◌≡◌ {A = P}) (Aside MayRead MayWrite s.registers t.registers) (Unstored s.byte t.byte)) (exec_all d permission xs s) (exec_all d permission xs t) s'
-    (all_simulated (equality_related d) (aside_registers MayRead MayWrite s.registers t.registers) (unstored_memories d permission s.byte t.byte) (same_permission permission) xs s t c
-    (record { at = at; registers = record { long = long; agree = agree; first = λ r z no. refl; second = λ r z no. refl }; condition = pairwise_same _ _ condition; byte = (refl, refl) }))
+    went_simulated (Match (◌≡◌ {A = T}) (◌≡◌ {A = P}) (Aside MayRead MayWrite s.registers t.registers)
+    (Unstored s.byte t.byte)) (exec_all d permission xs s) (exec_all d permission xs t) s'
+    (all_simulated (equality_related d) (aside_registers MayRead MayWrite s.registers t.registers)
+    (unstored_memories d permission s.byte t.byte) (same_permission permission) xs s t c
+    (record {
+      at = at;
+      registers = record
+          { long = long; agree = agree; first = λ r z no. refl; second = λ r z no. refl };
+      condition = pairwise_same _ _ condition;
+      byte = (refl, refl);
+    }))
     w
 
 -- the operation neither reads nor writes the register
@@ -138,9 +204,20 @@ set_itself (x ∷ xs) (suc i) zero z d = refl
 set_itself (x ∷ xs) (suc i) (suc j) z d = set_itself xs i j z d
 
 -- `ori 0,0,0` does nothing.
-pub nop_passes : (size : ℕ) (permission : Permission) (s : NumberState) → (s' : NumberState) × (exec numbers size permission (operation_of (Ori 0 0 0)) s ≡ Went s') × SameBut (λ r. ⊥) s' (passed size s)
-nop_passes size permission s =
-    (_, refl, record { at = refl; long = length-set s.registers 0 (register numbers s.registers 0); registers = λ r z kept. set_itself s.registers 0 r z 0; condition = refl; byte = refl })
+pub nop_passes :
+    (size : ℕ) (permission : Permission) (s : NumberState) →
+    (s' : NumberState) × (exec numbers size permission (operation_of (Ori 0 0 0)) s ≡ Went s') × SameBut (λ r. ⊥) s' (passed size s)
+nop_passes size permission s = (
+  _,
+  refl,
+  record {
+    at = refl;
+    long = length-set s.registers 0 (register numbers s.registers 0);
+    registers = λ r z kept. set_itself s.registers 0 r z 0;
+    condition = refl;
+    byte = refl;
+  },
+)
 
 -- the address that a register and a displacement give
 abbrev pub address_in : NumberState → ℕ → ℕ → ℕ
@@ -150,7 +227,12 @@ check_went : {S : Type 0} (b : Bool) (reason : Reason) (s s' : S) → check b re
 check_went true reason s s' h = cc
 check_went false reason s s' h = cc
 
-set_as : (xs ys : List ℕ) (i v j z : ℕ) → length xs ≡ length ys → ((z : ℕ) → slice_index_or ys i z ≡ v) → (j ≢ i → slice_index_or xs j z ≡ slice_index_or ys j z) → slice_index_or (slice_set xs i v) j z ≡ slice_index_or ys j z
+set_as :
+    (xs ys : List ℕ) (i v j z : ℕ) →
+    length xs ≡ length ys →
+    ((z : ℕ) → slice_index_or ys i z ≡ v) →
+    (j ≢ i → slice_index_or xs j z ≡ slice_index_or ys j z) →
+    slice_index_or (slice_set xs i v) j z ≡ slice_index_or ys j z
 set_as [] [] i v j z long is h = refl
 set_as [] (b ∷ ys) i v j z long is h = cc
 set_as (a ∷ xs) [] i v j z long is h = cc
@@ -163,7 +245,10 @@ all_confined : (Is Is' : Operation → Type 0) (xs : List Sized) → ((op : Oper
 all_confined Is Is' [] h c = tt
 all_confined Is Is' (x ∷ xs) h c = (h x.operation c.0, all_confined Is Is' xs h c.1)
 
-load_confined : (Same : Type 0) (rx ry : ℕ) (same : Same) (op : Operation) → LoadsPast rx ry op → Confined (λ r. (r ≢ rx) × (r ≢ ry)) (λ r. (r ≢ rx) × (r ≢ ry)) Same ⊥ op
+load_confined :
+    (Same : Type 0) (rx ry : ℕ) (same : Same) (op : Operation) →
+    LoadsPast rx ry op →
+    Confined (λ r. (r ≢ rx) × (r ≢ ry)) (λ r. (r ≢ rx) × (r ≢ ry)) Same ⊥ op
 load_confined Same rx ry same op h = record {
   reads = λ r used. (λ e. h.base.unread (subst (Reads op) e used), λ e. h.loaded.unread (subst (Reads op) e used));
   writes = λ r used. (λ e. h.base.unwritten (subst (Writes op) e used), λ e. h.loaded.unwritten (subst (Writes op) e used));
@@ -171,7 +256,10 @@ load_confined Same rx ry same op h = record {
   stores = λ is. absurd (h.unstored is);
 }
 
-store_confined : (Same : Type 0) (rx rs : ℕ) (op : Operation) → StoresPast rx rs op → Confined (λ r. r ≢ rx) (λ r. (r ≢ rx) × (r ≢ rs)) Same ⊥ op
+store_confined :
+    (Same : Type 0) (rx rs : ℕ) (op : Operation) →
+    StoresPast rx rs op →
+    Confined (λ r. r ≢ rx) (λ r. (r ≢ rx) × (r ≢ rs)) Same ⊥ op
 store_confined Same rx rs op h = record {
   reads = λ r used e. h.base.unread (subst (Reads op) e used);
   writes = λ r used. (λ e. h.base.unwritten (subst (Writes op) e used), λ e. h.stored (subst (Writes op) e used));
@@ -202,7 +290,8 @@ StoreMovesBefore =
 pub load_moves_before : LoadMovesBefore
 load_moves_before permission xs size width sign rx ry disp s u v t c same loaded w q =
     let May = λ (r : ℕ). (r ≢ rx) × (r ≢ ry) in
-    let k = all_aside numbers permission May May xs s u t (all_confined _ _ xs (load_confined (s.byte ≡ t.byte) rx ry same.byte) c) same.at same.condition same.long
+    let k = all_aside numbers permission May May xs s u t
+    (all_confined _ _ xs (load_confined (s.byte ≡ t.byte) rx ry same.byte) c) same.at same.condition same.long
     (λ r z may. same.registers r z (λ lost. ⊎_elim may.0 may.1 lost)) w in
     let t' = k.0 in
     let m = k.2 in
@@ -211,14 +300,17 @@ load_moves_before permission xs size width sign rx ry disp s u v t c same loaded
     let same_value : value s ≡ value u =
     ap (λ a. numbers.join width sign (bytes_from s.byte (sum_address a disp) (bytes_of width))) (sym base)
     ∙ ap (λ f. numbers.join width sign (bytes_from f (address_in u rx disp) (bytes_of width))) (sym m.byte.0) in
-    let is : (z : ℕ) → slice_index_or t'.registers ry z ≡ value u = λ z. m.registers.second ry z (λ may. may.1 refl) ∙ loaded z ∙ same_value in
-    let last : with_result numbers size u ry (value u) false ≡ v = check_went (permission Loading (address_in u rx disp) (bytes_of width)) why.Load _ v q in (
+    let is : (z : ℕ) → slice_index_or t'.registers ry z ≡ value u = λ z. m.registers.second ry z (λ may. may.1 refl)
+    ∙ loaded z ∙ same_value in
+    let last : with_result numbers size u ry (value u) false ≡ v = check_went
+    (permission Loading (address_in u rx disp) (bytes_of width)) why.Load _ v q in (
       t',
       k.1,
       subst (λ w. SameBut (λ r. (r ≡ rx) × (r ≢ ry)) w (passed size t')) last (record {
         at = ap (λ a. sum_address a size) m.at;
         long = length-set u.registers ry (value u) ∙ m.registers.long;
-        registers = λ r z kept. set_as u.registers t'.registers ry (value u) r z m.registers.long is (λ other. m.registers.agree r z (λ e. kept (e, other), other));
+        registers = λ r z kept. set_as u.registers t'.registers ry (value u) r z m.registers.long is
+            (λ other. m.registers.agree r z (λ e. kept (e, other), other));
         condition = lists_same _ _ m.condition;
         byte = m.byte.0 ∙ same.byte ∙ sym m.byte.1;
       }),
@@ -226,7 +318,8 @@ load_moves_before permission xs size width sign rx ry disp s u v t c same loaded
 
 pub store_moves_before : StoreMovesBefore
 store_moves_before permission xs size width rx rs disp s u v t c other at condition long agree stored w q =
-    let k = all_aside numbers permission (λ r. r ≢ rx) (λ r. (r ≢ rx) × (r ≢ rs)) xs s u t (all_confined _ _ xs (store_confined (s.byte ≡ t.byte) rx rs) c) at condition long agree w in
+    let k = all_aside numbers permission (λ r. r ≢ rx) (λ r. (r ≢ rx) × (r ≢ rs)) xs s u t
+    (all_confined _ _ xs (store_confined (s.byte ≡ t.byte) rx rs) c) at condition long agree w in
     let t' = k.0 in
     let m = k.2 in
     let memory_of = λ (w : NumberState). put w.byte (address_in w rx disp) (numbers.split width (register numbers w.registers rs)) in
@@ -236,7 +329,9 @@ store_moves_before permission xs size width rx rs disp s u v t c other at condit
     ap (λ f. put f (address_in u rx disp) (numbers.split width (register numbers u.registers rs))) m.byte.0
     ∙ ap (λ a. put s.byte (sum_address a disp) (numbers.split width (register numbers u.registers rs))) base
     ∙ ap (λ x. put s.byte (address_in s rx disp) (numbers.split width x)) value in
-    let last : with_bytes numbers size u None (address_in u rx disp) (numbers.split width (register numbers u.registers rs)) ≡ v = check_went (permission Storing (address_in u rx disp) (bytes_of width)) why.Store _ v q in (
+    let last : with_bytes numbers size u None (address_in u rx disp)
+    (numbers.split width (register numbers u.registers rs)) ≡ v = check_went
+    (permission Storing (address_in u rx disp) (bytes_of width)) why.Store _ v q in (
       t',
       k.1,
       subst (λ w. SameBut (λ r. r ≡ rx) w (passed size t')) last (record {

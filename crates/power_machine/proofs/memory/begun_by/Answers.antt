@@ -9,7 +9,8 @@ loop-low-preserved-then-regions-middle c =
     record {
       apart = omega arith;
       within = omega arith;
-      begun = begun_to c.args.regions.now (c.loop-low.low + (c.loop-low.high - c.loop-low.low) / 2) c.args.at c.index-regions-middle.result c.requires (omega arith) c.if-regions-middle.true;
+      begun = begun_to c.args.regions.now (c.loop-low.low + (c.loop-low.high - c.loop-low.low) / 2) c.args.at
+          c.index-regions-middle.result c.requires (omega arith) c.if-regions-middle.true;
       ahead = old.ahead;
     }
 
@@ -20,5 +21,6 @@ loop-low-preserved c =
       apart = omega arith;
       within = omega arith;
       begun = old.begun;
-      ahead = ahead_from c.args.regions.now (c.loop-low.low + (c.loop-low.high - c.loop-low.low) / 2) c.args.at c.index-regions-middle.result c.requires (omega arith) c.if-regions-middle.false;
+      ahead = ahead_from c.args.regions.now (c.loop-low.low + (c.loop-low.high - c.loop-low.low) / 2) c.args.at
+          c.index-regions-middle.result c.requires (omega arith) c.if-regions-middle.false;
     }

@@ -15,11 +15,15 @@ pub returns-then-holds-clause-value : goal.returns-then-holds-clause-value
 returns-then-holds-clause-value c =
     let last = c.begun_by-begun.result - 1 in
     ap (λ b. cond b (Some last) None) (sym c.if-holds.true)
-    ∙ place_tested c.args.purpose c.args.at c.args.count c.args.regions.now c.begun_by-begun.result last c.index-regions-last.result c.holds.result c.requires.order c.requires.some c.begun_by-begun.ensures (omega arith) (c.holds.ensures ∙ ap (λ r. holds c.args.purpose c.args.at c.args.count (range_of r)) c.index-regions-last.is)
+    ∙ place_tested c.args.purpose c.args.at c.args.count c.args.regions.now c.begun_by-begun.result last
+    c.index-regions-last.result c.holds.result c.requires.order c.requires.some c.begun_by-begun.ensures
+    (omega arith) (c.holds.ensures ∙ ap (λ r. holds c.args.purpose c.args.at c.args.count (range_of r)) c.index-regions-last.is)
 
 -- .. and where it doesn't, there is none.
 pub returns-else-holds-clause-value : goal.returns-else-holds-clause-value
 returns-else-holds-clause-value c =
     let last = c.begun_by-begun.result - 1 in
     ap (λ b. cond b (Some last) None) (sym c.if-holds.false)
-    ∙ place_tested c.args.purpose c.args.at c.args.count c.args.regions.now c.begun_by-begun.result last c.index-regions-last.result c.holds.result c.requires.order c.requires.some c.begun_by-begun.ensures (omega arith) (c.holds.ensures ∙ ap (λ r. holds c.args.purpose c.args.at c.args.count (range_of r)) c.index-regions-last.is)
+    ∙ place_tested c.args.purpose c.args.at c.args.count c.args.regions.now c.begun_by-begun.result last
+    c.index-regions-last.result c.holds.result c.requires.order c.requires.some c.begun_by-begun.ensures
+    (omega arith) (c.holds.ensures ∙ ap (λ r. holds c.args.purpose c.args.at c.args.count (range_of r)) c.index-regions-last.is)

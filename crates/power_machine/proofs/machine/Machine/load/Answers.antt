@@ -5,7 +5,8 @@ use Rattle.power_machine.proofs.Regions.{ranges_start, state_start, regions_in_o
 use Rattle.power_machine.proofs.machine.Machine.load.Goals as goal
 
 pub invariant_of-result : goal.invariant_of-result
-invariant_of-result c = record { in_order = subst InOrder (sym c.in_ok-regions.ensures) (regions_in_order c.args.segments.list.items c.requires) }
+invariant_of-result c =
+    record { in_order = subst InOrder (sym c.in_ok-regions.ensures) (regions_in_order c.args.segments.list.items c.requires) }
 
 pub returns : goal.returns
 returns c = record {

@@ -20,11 +20,13 @@ pub returns-in-OneWord-clause-made : goal.returns-in-OneWord-clause-made
 returns-in-OneWord-clause-made c =
     let r = run_of c.args.self.now c.args.world.now in
     made_by _ _ _ (OneWord c.in-OneWord.insn) _ c.in_default.is c.in-OneWord.ensures
-    (subst (λ p. Performs (operates numbers (within (machine_ranges c.args.self.now)) r 4 p) r (run_of c.operate.new.self c.operate.new.world) c.operate.result) c.plan_for.ensures.plan c.operate.ensures.performs)
+    (subst (λ p. Performs (operates numbers (within (machine_ranges c.args.self.now)) r 4 p) r
+    (run_of c.operate.new.self c.operate.new.world) c.operate.result) c.plan_for.ensures.plan c.operate.ensures.performs)
 
 pub returns-in-TwoWords-clause-made : goal.returns-in-TwoWords-clause-made
 returns-in-TwoWords-clause-made c =
     let r = run_of c.args.self.now c.args.world.now in
     let o = c.operate-in-TwoWords in
     made_by _ _ _ (TwoWords c.in-TwoWords.insn) _ c.in_default.is c.in-TwoWords.ensures
-    (subst (λ p. Performs (operates numbers (within (machine_ranges c.args.self.now)) r 8 p) r (run_of o.new.self o.new.world) o.result) c.plan_for_pair.ensures.plan o.ensures.performs)
+    (subst (λ p. Performs (operates numbers (within (machine_ranges c.args.self.now)) r 8 p) r
+    (run_of o.new.self o.new.world) o.result) c.plan_for_pair.ensures.plan o.ensures.performs)

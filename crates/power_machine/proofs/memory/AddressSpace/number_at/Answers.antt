@@ -15,7 +15,8 @@ pub returns-clause-value : goal.returns-clause-value
 returns-clause-value c =
     let n = bytes_of c.args.width in
     let s = c.index-region.result.now in
-    read_some spelled c.args.purpose c.args.self.now.regions.items _ c.args.at n n c.place.result c.in-Some.index c.number_in.result s c.args.self.now.in_order c.deref.ensures.value c.in-Some.is
+    read_some spelled c.args.purpose c.args.self.now.regions.items _ c.args.at n n c.place.result c.in-Some.index
+    c.number_in.result s c.args.self.now.in_order c.deref.ensures.value c.in-Some.is
     (c.place.ensures.value ∙ ap (λ k. place_of c.args.purpose c.args.at k c.deref.result.now) c.size_of.ensures)
     (subst (λ k. IsPlace c.args.purpose c.args.at k c.deref.result.now c.in-Some.index) c.size_of.ensures c.in-Some.ensures.found)
     c.index-region.ensures (omega arith)
