@@ -71,7 +71,8 @@ function_of (RotateWord count) x y = bit_and (rotate_left w64 (doubled x) count)
 -- x divided by y, towards zero; none where y is 0, and for signed numbers where the quotient would be 2 ^ 63
 abbrev pub quotient : Sign → ℕ → ℕ → Option ℕ
 quotient Unsigned x y = if y == 0 then None else Some (x / y)
-quotient Signed x y = if y == 0 || (x == 2 ^ 63 && y == 2 ^ 64 - 1) then None else Some (extended (int_div (cast_signed w64 x) (cast_signed w64 y)))
+quotient Signed x y =
+    if y == 0 || (x == 2 ^ 63 && y == 2 ^ 64 - 1) then None else Some (extended (int_div (cast_signed w64 x) (cast_signed w64 y)))
 
 -- the bits of a field of the condition register: less, greater, equal, and summary overflow, which is 0
 abbrev pub order_bits : ℤ → ℤ → List Bool

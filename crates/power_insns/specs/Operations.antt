@@ -47,7 +47,8 @@ or_or_copy ra rs n = if n == 0 then Copy ra (Register rs) false else Calculate B
 abbrev pub register_or : ℕ → ℕ → ℕ → Bool → Operation
 register_or ra rs rb rc = if rs == rb then Copy ra (Register rs) rc else Calculate BitOr ra (Register rs) (Register rb) rc
 
--- `add`: a function of its own, by which alone a run over other values than numbers may make a place of code; `add.` is a sum like any other
+-- `add`: a function of its own, by which alone a run over other values than numbers may make a place of code; `add.` is a sum like any
+-- other
 abbrev pub sum_of_registers : Bool → Function
 sum_of_registers true = Sum
 sum_of_registers false = RegisterSum

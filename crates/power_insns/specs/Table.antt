@@ -26,8 +26,12 @@ fields (Xori rs ra ui) = fld 6 26 ∷ fld 5 rs ∷ fld 5 ra ∷ fld 16 ui ∷ []
 fields (Xoris rs ra ui) = fld 6 27 ∷ fld 5 rs ∷ fld 5 ra ∷ fld 16 ui ∷ []
 fields (Andi rs ra ui) = fld 6 28 ∷ fld 5 rs ∷ fld 5 ra ∷ fld 16 ui ∷ []
 fields (Andis rs ra ui) = fld 6 29 ∷ fld 5 rs ∷ fld 5 ra ∷ fld 16 ui ∷ []
-fields (Rldicl rs ra sh mb rc) = fld 6 30 ∷ fld 5 rs ∷ fld 5 ra ∷ fld 5 (sh % 32) ∷ fld 5 (mb % 32) ∷ fld 1 (mb / 32) ∷ fld 3 0 ∷ fld 1 (sh / 32) ∷ fld 1 (flag rc) ∷ []
-fields (Rldicr rs ra sh me rc) = fld 6 30 ∷ fld 5 rs ∷ fld 5 ra ∷ fld 5 (sh % 32) ∷ fld 5 (me % 32) ∷ fld 1 (me / 32) ∷ fld 3 1 ∷ fld 1 (sh / 32) ∷ fld 1 (flag rc) ∷ []
+fields (Rldicl rs ra sh mb rc) =
+    fld 6 30 ∷ fld 5 rs ∷ fld 5 ra ∷ fld 5 (sh % 32) ∷ fld 5 (mb % 32) ∷ fld 1 (mb / 32) ∷ fld 3 0 ∷ fld 1 (sh / 32)
+    ∷ fld 1 (flag rc) ∷ []
+fields (Rldicr rs ra sh me rc) =
+    fld 6 30 ∷ fld 5 rs ∷ fld 5 ra ∷ fld 5 (sh % 32) ∷ fld 5 (me % 32) ∷ fld 1 (me / 32) ∷ fld 3 1 ∷ fld 1 (sh / 32)
+    ∷ fld 1 (flag rc) ∷ []
 fields (Lwz rt ra d) = fld 6 32 ∷ fld 5 rt ∷ fld 5 ra ∷ fld 16 (low_of 16 d) ∷ []
 fields (Lbz rt ra d) = fld 6 34 ∷ fld 5 rt ∷ fld 5 ra ∷ fld 16 (low_of 16 d) ∷ []
 fields (Lhz rt ra d) = fld 6 40 ∷ fld 5 rt ∷ fld 5 ra ∷ fld 16 (low_of 16 d) ∷ []

@@ -163,7 +163,8 @@ fn decode_word_rotation(w: u32) -> Option<Insn>
 
 // Immediate logic.
 fn decode_logic(w: u32) -> Option<Insn>
-    requires { (w / 2 ^ 26 ≡ 24) ⊎ (w / 2 ^ 26 ≡ 25) ⊎ (w / 2 ^ 26 ≡ 26) ⊎ (w / 2 ^ 26 ≡ 27) ⊎ (w / 2 ^ 26 ≡ 28) ⊎ (w / 2 ^ 26 ≡ 29) }
+    requires { (w / 2 ^ 26 ≡ 24) ⊎ (w / 2 ^ 26 ≡ 25) ⊎ (w / 2 ^ 26 ≡ 26) ⊎ (w / 2 ^ 26 ≡ 27)
+        ⊎ (w / 2 ^ 26 ≡ 28) ⊎ (w / 2 ^ 26 ≡ 29) }
     ensures fits { IfSome result Fits }
     ensures found { IfSome result (λ i. word_of i ≡ w) }
     ensures only { (i : Insn) → Fits i → word_of i ≡ w → result ≡ Some i }

@@ -108,7 +108,8 @@ pub fn x_word(op: u32, rt: u32, ra: u32, rb: u32, xo: u32, last: bool) -> u32
     requires ra { ra < 2 ^ 5 }
     requires rb { rb < 2 ^ 5 }
     requires xo { xo < 2 ^ 10 }
-    ensures { result ≡ word (fld 6 op ∷ fld 5 rt ∷ fld 5 ra ∷ fld 5 rb ∷ fld 10 xo ∷ fld 1 (flag last) ∷ []) }
+    ensures { result ≡ word (fld 6 op ∷ fld 5 rt ∷ fld 5 ra ∷ fld 5 rb ∷ fld 10 xo ∷ fld 1
+        (flag last) ∷ []) }
 {
     (op << 26) + (rt << 21) + (ra << 16) + (rb << 11) + (xo << 1) + u32::from(last)
 }
@@ -120,7 +121,8 @@ pub fn md_word(rs: u32, ra: u32, sh: u32, place: u32, xo: u32, rc: bool) -> u32
     requires sh { sh < 2 ^ 6 }
     requires place { place < 2 ^ 6 }
     requires xo { xo < 2 ^ 3 }
-    ensures { result ≡ word (fld 6 30 ∷ fld 5 rs ∷ fld 5 ra ∷ fld 5 (sh % 32) ∷ fld 5 (place % 32) ∷ fld 1 (place / 32) ∷ fld 3 xo ∷ fld 1 (sh / 32) ∷ fld 1 (flag rc) ∷ []) }
+    ensures { result ≡ word (fld 6 30 ∷ fld 5 rs ∷ fld 5 ra ∷ fld 5 (sh % 32) ∷ fld 5
+        (place % 32) ∷ fld 1 (place / 32) ∷ fld 3 xo ∷ fld 1 (sh / 32) ∷ fld 1 (flag rc) ∷ []) }
 {
     let split = ((sh % 32) << 11) + ((place % 32) << 6) + ((place / 32) << 5) + ((sh / 32) << 1);
     d_word(30, rs, ra, split + (xo << 2) + u32::from(rc))

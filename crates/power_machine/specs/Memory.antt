@@ -1,26 +1,5 @@
 -- Memory: ranges of addresses that are allowed, which never change, and a byte at each address.
-use Rattle.std.specs.Prelude.{
-  ℕ,
-  zero,
-  suc,
-  ◌+◌,
-  ◌-◌,
-  Bool,
-  true,
-  ◌&&◌,
-  ◌||◌,
-  ◌==◌,
-  List,
-  [],
-  ◌∷◌,
-  length,
-  map,
-  nat_le,
-  nat_lt,
-  if◌then◌else◌,
-  slice_index,
-  slice_index_or,
-}
+use Rattle.std.specs.Prelude.{ℕ, zero, suc, ◌+◌, ◌-◌, Bool, true, ◌&&◌, ◌||◌, ◌==◌, List, [], ◌∷◌, length, map, nat_le, nat_lt, if◌then◌else◌, slice_index, slice_index_or}
 use Rattle.std.specs.List.{list_any}
 use Rattle.power_machine.specs.declared.memory.Purpose.{Purpose}
 use Rattle.power_machine.specs.declared.memory.Purpose.TheVariants.{Loading, Storing, Fetching}

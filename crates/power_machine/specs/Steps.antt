@@ -11,7 +11,7 @@ use Rattle.power_machine.specs.declared.machine.StepOutcome.{StepOutcome}
 use Rattle.power_machine.specs.declared.machine.StepOutcome.TheVariants as outcome
 use Rattle.power_machine.specs.declared.machine.Outcome.{Outcome}
 use Rattle.power_machine.specs.declared.machine.Outcome.TheVariants as ending
-use Rattle.power_machine.specs.Memory.{Range, within}
+use Rattle.power_machine.specs.Memory.{Permission, Range, within}
 use Rattle.power_machine.specs.Machines.{Next, Went, Left, state_after}
 use Rattle.power_machine.specs.Numbers.{numbers, state_of, core_ranges}
 use Rattle.power_machine.specs.Codes.{IsNext}
@@ -54,6 +54,10 @@ run_of m w =
 
 abbrev pub machine_ranges : Machine → List Range
 machine_ranges m = core_ranges m.core
+
+-- what its memory permits
+abbrev pub machine_may : Machine → Permission
+machine_may m = within (machine_ranges m)
 
 abbrev pub went_outcome : Option ℕ → StepOutcome
 went_outcome None = outcome.Went

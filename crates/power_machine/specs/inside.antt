@@ -1,3 +1,4 @@
 pub mod Core
 pub mod Loading
 pub mod Regions
+pub mod Words

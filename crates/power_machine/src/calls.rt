@@ -1,10 +1,10 @@
 // System calls.
 ghost use Rattle.std.specs.Prelude.{◌≡◌, ◌<◌, ◌≤◌, ◌+◌, ◌%◌, ◌||◌, ◌==◌, ℕ, List, Some, None, length};
-ghost use Rattle.power_machine.specs.Memory.{byte_at, within};
+ghost use Rattle.power_machine.specs.Memory.{byte_at};
 ghost use Rattle.power_machine.specs.Calls.{calls, reads, writes, exits, after_call, event_of};
 ghost use Rattle.power_machine.specs.Numbers.{numbers, state_of};
 ghost use Rattle.power_machine.specs.inside.Core.{asked_in};
-ghost use Rattle.power_machine.specs.Steps.{run_of, machine_ranges, Performs};
+ghost use Rattle.power_machine.specs.Steps.{run_of, machine_may, machine_ranges, Performs};
 
 use crate::machine::{Machine, StepOutcome};
 use crate::memory::Purpose;
@@ -30,7 +30,8 @@ impl Core {
 
     // After a call that was answered, where so many bytes came or went.
     fn called(&mut self, answer: Answer, count: u64)
-        ensures state { state_of self.new ≡ after_call numbers (state_of self.old) answer count (byte_at self.old.memory.regions.items) }
+        ensures state { state_of self.new ≡ after_call numbers (state_of self.old) answer count
+            (byte_at self.old.memory.regions.items) }
         ensures memory { self.new.memory ≡ self.old.memory }
     {
         self.registers[3] = answer.result(count);
@@ -42,7 +43,8 @@ impl Core {
 impl Machine {
     fn exit(&mut self, world: &mut World) -> StepOutcome
         requires { self.old.ended ≡ None }
-        ensures performs { Performs (exits numbers (run_of self.old world.old)) (run_of self.old world.old) (run_of self.new world.new) result }
+        ensures performs { let r = run_of self.old world.old in
+            Performs (exits numbers r) r (run_of self.new world.new) result }
         ensures ranges { machine_ranges self.new ≡ machine_ranges self.old }
     {
         let status = (self.core.registers[3] % 256) as u8;
@@ -52,7 +54,8 @@ impl Machine {
 
     fn read(&mut self, world: &mut World) -> StepOutcome
         requires { self.old.ended ≡ None }
-        ensures performs { Performs (reads numbers (within (machine_ranges self.old)) (run_of self.old world.old)) (run_of self.old world.old) (run_of self.new world.new) result }
+        ensures performs { let r = run_of self.old world.old in
+            Performs (reads numbers (machine_may self.old) r) r (run_of self.new world.new) result }
         ensures ranges { machine_ranges self.new ≡ machine_ranges self.old }
     {
         let address = self.core.registers[4];
@@ -79,7 +82,8 @@ impl Machine {
 
     fn write(&mut self, world: &mut World) -> StepOutcome
         requires { self.old.ended ≡ None }
-        ensures performs { Performs (writes numbers (within (machine_ranges self.old)) (run_of self.old world.old)) (run_of self.old world.old) (run_of self.new world.new) result }
+        ensures performs { let r = run_of self.old world.old in
+            Performs (writes numbers (machine_may self.old) r) r (run_of self.new world.new) result }
         ensures ranges { machine_ranges self.new ≡ machine_ranges self.old }
     {
         let address = self.core.registers[4];
@@ -103,7 +107,8 @@ impl Machine {
     // A call of the system, by its number in r0.
     pub(crate) fn call(&mut self, world: &mut World) -> StepOutcome
         requires { self.old.ended ≡ None }
-        ensures performs { Performs (calls numbers (within (machine_ranges self.old)) (run_of self.old world.old)) (run_of self.old world.old) (run_of self.new world.new) result }
+        ensures performs { let r = run_of self.old world.old in
+            Performs (calls numbers (machine_may self.old) r) r (run_of self.new world.new) result }
         ensures ranges { machine_ranges self.new ≡ machine_ranges self.old }
     {
         match self.core.registers[0] {

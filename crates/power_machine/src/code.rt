@@ -2,6 +2,7 @@
 ghost use Rattle.std.specs.Prelude.{◌≡◌, ◌%◌, ◌+◌, ◌^◌, ◌==◌, ◌&&◌, ℕ, true, Some, None, if◌then◌else◌};
 ghost use Rattle.power_machine.specs.Memory.{ranges_of, byte_at};
 ghost use Rattle.power_machine.specs.Codes.{Stands, is_executable, word_in, HasNoWord};
+ghost use Rattle.power_machine.specs.inside.Words.{word_fetched};
 
 use crate::memory::{AddressSpace, Purpose};
 use power_insns::meaning::Width;
@@ -26,7 +27,7 @@ pub enum Code {
 
 // The word at an address, where it is executable.
 fn fetch(memory: &AddressSpace, at: u64) -> Option<u32>
-    ensures { result ≡ (if is_executable (ranges_of memory.now.regions.items) at then Some (word_in (byte_at memory.now.regions.items) at) else None) }
+    ensures { result ≡ word_fetched at memory.now.regions.items }
 {
     if at % 4 != 0 {
         return None;
@@ -37,7 +38,8 @@ fn fetch(memory: &AddressSpace, at: u64) -> Option<u32>
 
 /// What stands at an address.
 pub fn code_at(memory: &AddressSpace, at: u64) -> Code
-    ensures { Stands (ranges_of memory.now.regions.items) (byte_at memory.now.regions.items) at result }
+    ensures { Stands (ranges_of memory.now.regions.items) (byte_at memory.now.regions.items) at
+        result }
 {
     let Some(word) = fetch(memory, at) else {
         return Code::Unfetched;
@@ -53,7 +55,8 @@ fn pair_at(memory: &AddressSpace, at: u64, prefix: u32) -> Code
     requires executable { is_executable (ranges_of memory.now.regions.items) at ≡ true }
     requires prefix { prefix ≡ word_in (byte_at memory.now.regions.items) at }
     requires no_word { HasNoWord (byte_at memory.now.regions.items) at }
-    ensures { Stands (ranges_of memory.now.regions.items) (byte_at memory.now.regions.items) at result }
+    ensures { Stands (ranges_of memory.now.regions.items) (byte_at memory.now.regions.items) at
+        result }
 {
     if at % 64 == 60 {
         return Code::Unknown;

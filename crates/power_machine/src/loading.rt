@@ -59,7 +59,8 @@ fn stack(alloc: Global) -> Result<Region, Memory>
 // The regions of segments, and of the stack behind them.
 fn regions_of(alloc: Global, segments: Vec<Segment>) -> Result<Vec<Region>, Memory>
     requires { ArePlaced segments.items }
-    ensures { IfOk result (λ regions. regions.items ≡ map region_of segments.items ++ stack_region ∷ []) }
+    ensures { IfOk result (λ regions. regions.items ≡ map region_of segments.items
+        ++ stack_region ∷ []) }
 {
     let mut regions = Vec::with_capacity(alloc, segments.len() + 1)?;
     for segment in segments {

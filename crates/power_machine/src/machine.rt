@@ -3,9 +3,8 @@ ghost use Rattle.std.specs.Prelude.{◌≡◌, ◌<◌, ◌+◌, ◌%◌, ◌||�
 ghost use Rattle.power_insns.specs.Operations.{IsWellNamed};
 ghost use Rattle.power_machine.specs.Codes.{IsNext};
 ghost use Rattle.power_machine.specs.Numbers.{numbers, core_ranges, state_of};
-ghost use Rattle.power_machine.specs.Steps.{run_of, machine_ranges, Made, Performs, RunAnswers};
+ghost use Rattle.power_machine.specs.Steps.{run_of, machine_may, machine_ranges, Made, Performs, RunAnswers};
 ghost use Rattle.power_machine.specs.Runs.{operates, is_call};
-ghost use Rattle.power_machine.specs.Memory.{within};
 
 use crate::code::{Code, code_at};
 use crate::reason::Reason;
@@ -76,7 +75,9 @@ impl Machine {
     fn operate(&mut self, size: u64, operation: &Operation, world: &mut World) -> StepOutcome
         requires names { IsWellNamed operation.now }
         requires going { self.old.ended ≡ None }
-        ensures performs { Performs (operates numbers (within (machine_ranges self.old)) (run_of self.old world.old) size operation.now) (run_of self.old world.old) (run_of self.new world.new) result }
+        ensures performs { let r = run_of self.old world.old in
+            Performs (operates numbers (machine_may self.old) r size operation.now) r
+            (run_of self.new world.new) result }
         ensures ranges { machine_ranges self.new ≡ machine_ranges self.old }
     {
         if is_system(operation) {
@@ -91,7 +92,8 @@ impl Machine {
 
     /// One step. After the end it answers Ended again, and nothing changes.
     pub fn step(&mut self, world: &mut World) -> StepOutcome
-        ensures made { Made (machine_ranges self.old) (run_of self.old world.old) (run_of self.new world.new) result }
+        ensures made { Made (machine_ranges self.old) (run_of self.old world.old)
+            (run_of self.new world.new) result }
         ensures ranges { machine_ranges self.new ≡ machine_ranges self.old }
     {
         if let Some(status) = self.ended {
@@ -107,7 +109,8 @@ impl Machine {
 
     /// At most so many steps. After the end it answers Exited again, and nothing changes.
     pub fn run(&mut self, budget: u64, world: &mut World) -> Outcome
-        ensures answers { RunAnswers (machine_ranges self.old) budget (run_of self.old world.old) (run_of self.new world.new) result }
+        ensures answers { RunAnswers (machine_ranges self.old) budget
+            (run_of self.old world.old) (run_of self.new world.new) result }
         ensures ranges { machine_ranges self.new ≡ machine_ranges self.old }
     {
         if let Some(status) = self.ended {

@@ -3,8 +3,8 @@ ghost use Rattle.std.specs.Prelude.{◌≡◌, ◌+◌, ◌≤◌, ◌<◌, ◌-
 ghost use Rattle.power_insns.specs.Arithmetic.{bytes_of};
 ghost use Rattle.power_machine.specs.declared.memory.Purpose.TheVariants.{Loading, Storing};
 ghost use Rattle.power_machine.specs.Bytes.{spelled};
-ghost use Rattle.power_machine.specs.Memory.{permits, holds, range_of, ranges_of, byte_at, bytes_from, put, allows, allows_range, within};
-ghost use Rattle.power_machine.specs.inside.Regions.{BeginBy, InOrder, IsPlace, place_of};
+ghost use Rattle.power_machine.specs.Memory.{permits, holds, range_of, ranges_of, allows, allows_range};
+ghost use Rattle.power_machine.specs.inside.Regions.{BeginBy, InOrder, IsPlace, Puts, bytes_read, number_read, permitted, place_of, range_read};
 
 use crate::contents::{Contents, number_in};
 use power_insns::meaning::Width;
@@ -106,14 +106,14 @@ impl AddressSpace {
 
     /// Whether a call's range may be used. A range without bytes may, wherever it lies.
     pub fn allows(&self, purpose: Purpose, at: u64, count: u64) -> bool
-        ensures { result ≡ allows_range (within (ranges_of self.now.regions.items)) purpose at count }
+        ensures { result ≡ allows_range (permitted self.now.regions.items) purpose at count }
     {
         count == 0 || self.has(purpose, at, count)
     }
 
     /// The number at an address, where it may be used.
     pub fn number_at(&self, purpose: Purpose, at: u64, width: Width) -> Option<u64>
-        ensures value { result ≡ (if allows purpose at (bytes_of width) (ranges_of self.now.regions.items) then Some (spelled (bytes_from (byte_at self.now.regions.items) at (bytes_of width))) else None) }
+        ensures value { result ≡ number_read purpose at width self.now.regions.items }
         ensures bound { IfSome result (λ n. n < 256 ^ bytes_of width) }
     {
         let Some(index) = place(&self.regions, purpose, at, size_of(width)) else {
@@ -129,7 +129,8 @@ impl AddressSpace {
         requires fits { length bytes.now ≤ room }
         ensures allowed { result ≡ allows Storing at room (ranges_of self.old.regions.items) }
         ensures ranges { ranges_of self.new.regions.items ≡ ranges_of self.old.regions.items }
-        ensures stored { result ≡ true → byte_at self.new.regions.items ≡ put (byte_at self.old.regions.items) at bytes.now }
+        ensures stored { result ≡ true → Puts self.old.regions.items self.new.regions.items at
+            bytes.now }
         ensures refused { result ≡ false → self.new ≡ self.old }
     {
         let Some(index) = place(&self.regions, Purpose::Storing, at, room) else {
@@ -144,9 +145,9 @@ impl AddressSpace {
     /// Puts bytes into a call's range that may be stored into.
     pub fn fill(&mut self, at: u64, room: u64, bytes: &[u8])
         requires fits { length bytes.now ≤ room }
-        requires allowed { allows_range (within (ranges_of self.old.regions.items)) Storing at room ≡ true }
+        requires allowed { allows_range (permitted self.old.regions.items) Storing at room ≡ true }
         ensures ranges { ranges_of self.new.regions.items ≡ ranges_of self.old.regions.items }
-        ensures filled { byte_at self.new.regions.items ≡ put (byte_at self.old.regions.items) at bytes.now }
+        ensures filled { Puts self.old.regions.items self.new.regions.items at bytes.now }
     {
         if room > 0 {
             self.write(at, room, bytes);
@@ -163,7 +164,7 @@ impl AddressSpace {
     ) -> Result<Option<Bytes>, AllocError>
         requires some { 0 < room }
         requires fits { count ≤ room }
-        ensures { IfOk result (λ bytes. bytes ≡ (if allows Loading at room (ranges_of self.now.regions.items) then Some (bytes_from (byte_at self.now.regions.items) at count) else None)) }
+        ensures { IfOk result (λ bytes. bytes ≡ bytes_read at room count self.now.regions.items) }
     {
         let Some(index) = place(&self.regions, Purpose::Loading, at, room) else {
             return Ok(None);
@@ -183,7 +184,7 @@ impl AddressSpace {
         count: u64,
     ) -> Result<Option<Bytes>, AllocError>
         requires { count ≤ room }
-        ensures { IfOk result (λ bytes. bytes ≡ (if allows_range (within (ranges_of self.now.regions.items)) Loading at room then Some (bytes_from (byte_at self.now.regions.items) at count) else None)) }
+        ensures { IfOk result (λ bytes. bytes ≡ range_read at room count self.now.regions.items) }
     {
         if room == 0 {
             return Ok(Some(Bytes::of(Vec::new(alloc))));

@@ -63,7 +63,8 @@ impl Core {
     // Sets a register, and field 0 of CR by its value where that is asked.
     fn finish(&mut self, size: u64, to: u32, value: u64, rc: bool) -> CoreOutcome
         requires { to < 34 }
-        ensures { Did (Went (with_result numbers size (state_of self.old) to value rc)) self.old self.new result }
+        ensures { Did (Went (with_result numbers size (state_of self.old) to value rc)) self.old
+            self.new result }
     {
         self.registers[to as usize] = value;
         if rc {
@@ -79,7 +80,8 @@ impl Core {
 
     fn set_order(&mut self, size: u64, field: u32, bits: [bool; 4]) -> CoreOutcome
         requires { field < 8 }
-        ensures { Did (Went (with_order numbers size (state_of self.old) field bits)) self.old self.new result }
+        ensures { Did (Went (with_order numbers size (state_of self.old) field bits)) self.old
+            self.new result }
     {
         set_field(&mut self.condition, field, bits);
         self.at = self.at.wrapping_add(size);
@@ -88,7 +90,8 @@ impl Core {
 
     fn divide(&mut self, size: u64, sign: Sign, to: u32, x: u64, y: u64, rc: bool) -> CoreOutcome
         requires { to < 34 }
-        ensures { Did (divide_of numbers size (state_of self.old) sign to x y rc) self.old self.new result }
+        ensures { Did (divide_of numbers size (state_of self.old) sign to x y rc) self.old
+            self.new result }
     {
         match divide(sign, x, y) {
             Some(value) => self.finish(size, to, value, rc),
@@ -98,7 +101,8 @@ impl Core {
 
     fn load(&mut self, size: u64, width: Width, sign: Sign, to: u32, at: u64) -> CoreOutcome
         requires { to < 34 }
-        ensures { Did (load_at numbers size (within (core_ranges self.old)) (state_of self.old) width sign to at) self.old self.new result }
+        ensures { Did (load_at numbers size (within (core_ranges self.old)) (state_of self.old)
+            width sign to at) self.old self.new result }
     {
         match self.memory.number_at(Purpose::Loading, at, width) {
             Some(n) => self.finish(size, to, widen(width, sign, n), false),
@@ -117,7 +121,8 @@ impl Core {
     ) -> CoreOutcome
         requires from { from < 34 }
         requires update { NamesUpdate update }
-        ensures { Did (store_at numbers size (within (core_ranges self.old)) (state_of self.old) width from update at) self.old self.new result }
+        ensures { Did (store_at numbers size (within (core_ranges self.old)) (state_of self.old)
+            width from update at) self.old self.new result }
     {
         let bytes = self.registers[from as usize].to_le_bytes();
         let count = size_of(width);
@@ -134,7 +139,8 @@ impl Core {
     // Whether the condition register is as wanted.
     fn meets(&self, condition: Condition) -> bool
         requires { NamesBit condition }
-        ensures { (b : Bool) → wanted numbers self.now.condition condition ≡ Some b → result ≡ met condition b }
+        ensures { (b : Bool) → wanted numbers self.now.condition condition ≡ Some b →
+            result ≡ met condition b }
     {
         match condition {
             Condition::Always => true,
@@ -162,7 +168,8 @@ impl Core {
     ) -> CoreOutcome
         requires bit { NamesBit condition }
         requires target { NamesTarget target }
-        ensures { Did (branch numbers size (state_of self.old) counter condition target link) self.old self.new result }
+        ensures { Did (branch numbers size (state_of self.old) counter condition target link)
+            self.old self.new result }
     {
         let counted = match counter {
             Counter::Kept => true,
@@ -188,7 +195,8 @@ impl Core {
     /// One operation, of an instruction of so many bytes. One that leaves changes nothing.
     pub fn act(&mut self, size: u64, operation: &Operation) -> CoreOutcome
         requires { IsWellNamed operation.now }
-        ensures { Did (exec numbers size (within (core_ranges self.old)) operation.now (state_of self.old)) self.old self.new result }
+        ensures { Did (exec numbers size (within (core_ranges self.old)) operation.now
+            (state_of self.old)) self.old self.new result }
     {
         match *operation {
             Operation::Copy { to, from, rc } => {

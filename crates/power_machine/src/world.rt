@@ -112,8 +112,10 @@ impl World {
 
     // Takes the next answer, and so many bytes of the input.
     pub(crate) fn take(&mut self, most: u64)
-        ensures answers { drop self.new.used self.new.answers.items ≡ drop 1 (drop self.old.used self.old.answers.items) }
-        ensures input { drop self.new.taken self.new.input.items ≡ drop most (drop self.old.taken self.old.input.items) }
+        ensures answers { drop self.new.used self.new.answers.items ≡ drop 1
+            (drop self.old.used self.old.answers.items) }
+        ensures input { drop self.new.taken self.new.input.items ≡ drop most
+            (drop self.old.taken self.old.input.items) }
     {
         self.used = end_of(self.used, 1, self.answers.len());
         self.taken = end_of(self.taken, most, self.input.len());
@@ -122,8 +124,10 @@ impl World {
 
 // The end of at most so many from a place on, of a number of them.
 fn end_of(at: usize, most: u64, count: usize) -> usize
-    ensures bytes { (items : List ℕ) → length items ≡ count → drop result items ≡ drop most (drop at items) }
-    ensures answers { (items : List Answer) → length items ≡ count → drop result items ≡ drop most (drop at items) }
+    ensures bytes { (items : List ℕ) → length items ≡ count →
+        drop result items ≡ drop most (drop at items) }
+    ensures answers { (items : List Answer) → length items ≡ count →
+        drop result items ≡ drop most (drop at items) }
 {
     if at < count && most < (count - at) as u64 {
         at + most as usize

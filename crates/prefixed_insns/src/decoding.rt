@@ -12,7 +12,8 @@ use power_insns::words::{bit, field};
 pub fn decode_pair(prefix: u32, suffix: u32) -> Option<PInsn>
     ensures fits { IfSome result Fits }
     ensures found { IfSome result (λ i. (prefix_of i ≡ prefix) × (suffix_of i ≡ suffix)) }
-    ensures only { (i : PInsn) → Fits i → prefix_of i ≡ prefix → suffix_of i ≡ suffix → result ≡ Some i }
+    ensures only { (i : PInsn) → Fits i → prefix_of i ≡ prefix → suffix_of i ≡ suffix →
+        result ≡ Some i }
 {
     if field(prefix, 0, 5) != 1 || field(prefix, 8, 10) != 0 || field(prefix, 12, 13) != 0 {
         return None;

@@ -16,7 +16,8 @@ pub fn pairs_are_two_words()
 
 /// No two instructions have the same two words.
 pub fn pairs_tell_their_instruction()
-    ensures { (i j : PInsn) → Fits i → Fits j → prefix_of i ≡ prefix_of j → suffix_of i ≡ suffix_of j → i ≡ j }
+    ensures { (i j : PInsn) → Fits i → Fits j → prefix_of i ≡ prefix_of j →
+        suffix_of i ≡ suffix_of j → i ≡ j }
 {}
 
 /// No instruction of one word begins as one of two words does, so that taking words first hides no pair.

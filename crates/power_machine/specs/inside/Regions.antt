@@ -1,9 +1,13 @@
 -- The regions of an address space: their order, and which of them has so many bytes at an address.
-use Rattle.std.specs.Prelude.{ℕ, ◌+◌, ◌≤◌, ◌<◌, List, length, Option, slice_index_or}
+use Rattle.std.specs.Prelude.{◌≡◌, ℕ, ◌+◌, ◌≤◌, ◌<◌, List, length, Option, Some, None, slice_index_or, if◌then◌else◌}
 use Rattle.std.specs.List.{position}
+use Rattle.power_insns.specs.declared.meaning.Width.{Width}
+use Rattle.power_insns.specs.Arithmetic.{bytes_of}
 use Rattle.power_machine.specs.declared.memory.Purpose.{Purpose}
+use Rattle.power_machine.specs.declared.memory.Purpose.TheVariants.{Loading}
 use Rattle.power_machine.specs.declared.memory.Region.{Region}
-use Rattle.power_machine.specs.Memory.{holds, range_of, stop_of}
+use Rattle.power_machine.specs.Bytes.{spelled}
+use Rattle.power_machine.specs.Memory.{Permission, holds, range_of, ranges_of, stop_of, byte_at, bytes_from, put, allows, allows_range, within}
 
 -- the regions end at or below 2^31, are in order of their addresses, and none overlaps another
 pub record InOrder (regions : List Region) : Type 0 where
@@ -30,3 +34,24 @@ pub record IsPlace (purpose : Purpose) (at count : ℕ) (regions : List Region) 
   pub starts : (d : Region) → (slice_index_or regions index d).start ≤ at
   pub ends : (d : Region) → at + count ≤ stop_of (slice_index_or regions index d)
   pub low : (d : Region) → stop_of (slice_index_or regions index d) ≤ 0x80000000
+
+-- what the regions permit
+abbrev pub permitted : List Region → Permission
+permitted regions = within (ranges_of regions)
+
+-- the number at an address, where it may be used
+abbrev pub number_read : Purpose → ℕ → Width → List Region → Option ℕ
+number_read purpose at width regions =
+    if allows purpose at (bytes_of width) (ranges_of regions) then Some (spelled (bytes_from (byte_at regions) at (bytes_of width))) else None
+
+-- the first bytes at an address, where so many may be loaded
+abbrev pub bytes_read : ℕ → ℕ → ℕ → List Region → Option (List ℕ)
+bytes_read at room count regions = if allows Loading at room (ranges_of regions) then Some (bytes_from (byte_at regions) at count) else None
+
+-- the first bytes of a call's range
+abbrev pub range_read : ℕ → ℕ → ℕ → List Region → Option (List ℕ)
+range_read at room count regions = if allows_range (permitted regions) Loading at room then Some (bytes_from (byte_at regions) at count) else None
+
+-- these bytes are at an address now, and all others stay
+abbrev pub Puts : List Region → List Region → ℕ → List ℕ → Type 0
+Puts old new at bytes = byte_at new ≡ put (byte_at old) at bytes

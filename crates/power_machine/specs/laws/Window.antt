@@ -1,30 +1,5 @@
 -- Operations that stand one behind the other, what they leave as it is, and loads and stores that may be made before them.
-use Rattle.std.proofs.Common.{
-  ◌≡◌,
-  ◌≢◌,
-  ◌⊎◌,
-  ℕ,
-  zero,
-  suc,
-  Bool,
-  true,
-  false,
-  List,
-  [],
-  ◌∷◌,
-  length,
-  None,
-  ⊎_elim,
-  refl,
-  sym,
-  ap,
-  ◌∙◌,
-  subst,
-  arith,
-  get_or-set_other,
-  slice_index_or,
-  slice_set,
-}
+use Rattle.std.proofs.Common.{◌≡◌, ◌≢◌, ◌⊎◌, ℕ, zero, suc, Bool, true, false, List, [], ◌∷◌, length, None, ⊎_elim, refl, sym, ap, ◌∙◌, subst, arith, get_or-set_other, slice_index_or, slice_set}
 use Rattle.std.proofs.lemmas.List.{length-set}
 use Rattle.power_insns.specs.declared.instruction.Insn.TheVariants.{Ori}
 use Rattle.power_insns.specs.declared.meaning.Width.{Width}

@@ -29,7 +29,14 @@ one_low x y p q e = search rules
 abbrev pub insn_with : POp → ℕ → ℕ → Bool → ℤ → PInsn
 insn_with op rt ra relative disp = record { op = op; rt = rt; ra = ra; relative = relative; disp = disp }
 
-same_fields : (op op' : POp) (rt rt' ra ra' : ℕ) (r r' : Bool) (d d' : ℤ) → op ≡ op' → rt ≡ rt' → ra ≡ ra' → r ≡ r' → d ≡ d' → insn_with op rt ra r d ≡ insn_with op' rt' ra' r' d'
+same_fields :
+    (op op' : POp) (rt rt' ra ra' : ℕ) (r r' : Bool) (d d' : ℤ) →
+    op ≡ op' →
+    rt ≡ rt' →
+    ra ≡ ra' →
+    r ≡ r' →
+    d ≡ d' →
+    insn_with op rt ra r d ≡ insn_with op' rt' ra' r' d'
 same_fields op op' rt rt' ra ra' r r' d d' a b e f g = rw (a, b, e, f, g) refl
 
 -- no two instructions have the same two words
@@ -46,4 +53,5 @@ one_pair i j fits fits' p s =
     let same_code : opcode_of i.op ≡ opcode_of j.op = omega arith in
     let same_low : low_of 34 i.disp ≡ low_of 34 j.disp = omega arith in
     same_fields i.op j.op i.rt j.rt i.ra j.ra i.relative j.relative i.disp j.disp
-    (one_opcode i.op j.op same_code) (omega arith) (omega arith) (one_flag i.relative j.relative (omega arith)) (one_low i.disp j.disp fits.disp fits'.disp same_low)
+    (one_opcode i.op j.op same_code) (omega arith) (omega arith) (one_flag i.relative j.relative (omega arith))
+    (one_low i.disp j.disp fits.disp fits'.disp same_low)
