@@ -1,4 +1,4 @@
--- The functions of numbers that instructions compute (Power ISA 3.1, book I, chapter 3 "Fixed-point facility").
+-- The functions of numbers that instructions compute (Power ISA 3.1, book I, "Fixed-Point Facility").
 use Rattle.std.specs.Prelude.{ℕ, ℤ, pos, ◌+◌, ◌-◌, ◌*◌, ◌*ℤ◌, ◌/◌, ◌%◌, ◌^◌, Bool, false, not, ◌&&◌, ◌||◌, ◌==◌, nat_lt, nat_le, int_lt, int_div, if◌then◌else◌, bit_and, bit_or, bit_xor, List, [], ◌∷◌, Option, Some, None}
 use Rattle.std.specs.Int.{w8, w16, w32, w64, cast_signed, cast_unsigned, bit_not, rotate_left}
 use Rattle.power_insns.specs.declared.meaning.Width.{Width}

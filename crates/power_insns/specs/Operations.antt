@@ -1,5 +1,5 @@
--- What each one-word instruction does, a line each, as an operation (Power ISA 3.1, book I, chapters 2 "Branch facility" and 3
--- "Fixed-point facility", each instruction's page).
+-- What each one-word instruction does, a line each, as an operation (Power ISA 3.1, book I, chapters "Branch Facility" and
+-- "Fixed-Point Facility", each instruction's page).
 use Rattle.std.specs.Prelude.{ℕ, pos, ◌+◌, ◌*◌, ◌*ℤ◌, ◌/◌, ◌%◌, ◌^◌, ◌<◌, Bool, true, false, ◌&&◌, ◌==◌, nat_lt, if◌then◌else◌, Option, Some, None}
 use Rattle.power_insns.specs.declared.meaning.Width.{Width}
 use Rattle.power_insns.specs.declared.meaning.Width.TheVariants.{Byte, Half, Word, Long}
@@ -58,7 +58,7 @@ abbrev pub compared_width : Bool → Width
 compared_width true = Long
 compared_width false = Word
 
--- BO: its bits are worth 16, 8, 4, 2, 1 (book I, 2.5 "Branch instructions"). Where the third is 0 CTR is lowered, and the fourth
+-- BO: its bits are worth 16, 8, 4, 2, 1 (book I, "Branch Instructions"). Where the third is 0 CTR is lowered, and the fourth
 -- says whether it is then to be zero. Where the first is 0 the bit BI of CR is to be as the second says.
 abbrev pub counter_of : ℕ → Counter
 counter_of bo = if bo / 4 % 2 == 1 then Kept else Lowered (bo / 2 % 2 == 1)

@@ -1,5 +1,5 @@
 -- The layouts of the one-word instructions, a line each: the fields in order from bit 0, the most significant, each with its
--- number of bits and what it holds (Power ISA 3.1, book I, 1.6 "Instruction formats", and each instruction's own page).
+-- number of bits and what it holds (Power ISA 3.1, book I, "Instruction Formats", and each instruction's own page).
 -- Fixed bits are fields too, and bits that the manual reserves hold 0.
 use Rattle.std.specs.Prelude.{◌≡◌, ℕ, ◌<◌, ◌/◌, ◌%◌, ◌^◌, ◌⊎◌, List, [], ◌∷◌}
 use Rattle.power_insns.specs.Words.{Field, fld, word, flag, low_of, InSigned, IsDisplacement}

@@ -1,4 +1,4 @@
--- Words as lists of fields, the most significant first (Power ISA 3.1, book I, 1.6 "Instruction formats").
+-- Words as lists of fields, the most significant first (Power ISA 3.1, book I, "Instruction Formats").
 use Rattle.std.specs.Prelude.{◌≡◌, ℕ, ℤ, pos, neg_ℤ, ◌*◌, ◌+◌, ◌-◌, ◌^◌, ◌<◌, ◌≤ℤ◌, ◌<ℤ◌, Bool, true, false, List, [], ◌∷◌}
 use Rattle.std.specs.Int.{int_rem_euclid}
 use Rattle.std.specs.Int.RustNames.{unsigned_abs}

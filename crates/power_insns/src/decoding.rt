@@ -8,7 +8,7 @@ use crate::instruction::Insn;
 use crate::words::{bit, displacement, field, long_displacement, low_signed};
 
 /// The instruction of a word; `None` exactly where the word is of no instruction that fits. Bits that an instruction's layout
-/// reserves are zero, and opcode and extended opcode are those of Power ISA 3.1, book I, 1.6 and appendix "Opcode maps".
+/// reserves are zero, and opcode and extended opcode are those of the instruction's page in Power ISA 3.1, book I.
 pub fn decode(w: u32) -> Option<Insn>
     ensures fits { IfSome result Fits }
     ensures found { IfSome result (λ i. word_of i ≡ w) }

@@ -1,5 +1,5 @@
--- What stands at an address as an instruction (Power ISA 3.1, book I, 1.6 "Instruction formats" and 1.6.3 "Prefixed instruction formats"; a
--- prefixed instruction may not cross a 64-byte boundary).
+-- What stands at an address as an instruction (Power ISA 3.1, book I, "Instruction Formats"; a prefixed instruction may not cross a
+-- 64-byte boundary).
 use Rattle.std.specs.Prelude.{◌≡◌, ◌≢◌, ℕ, ◌%◌, Bool, true, false, ◌&&◌, ◌==◌, List}
 use Rattle.power_insns.specs.declared.instruction.Insn.{Insn}
 use Rattle.power_insns.specs.Table.{word_of, Fits as FitsWord}

@@ -1,4 +1,5 @@
--- What an operation does to the state of a machine, once for every kind of value (Power ISA 3.1, book I, chapters 2 and 3).
+-- What an operation does to the state of a machine, once for every kind of value (Power ISA 3.1, book I, "Branch Facility" and
+-- "Fixed-Point Facility").
 use Rattle.std.specs.Prelude.{ℕ, ◌+◌, ◌-◌, ◌*◌, ◌%◌, ◌^◌, Bool, true, false, not, ◌&&◌, ◌==◌, List, Option, Some, None, if◌then◌else◌, slice_index_or, slice_set}
 use Rattle.power_insns.specs.declared.meaning.Width.{Width}
 use Rattle.power_insns.specs.declared.meaning.Width.TheVariants.{Long}

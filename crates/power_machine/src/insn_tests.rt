@@ -1,4 +1,4 @@
-// A small program for each mnemonic, on numbers worked by hand from the manual's definition of each (Power ISA 3.1, book I, chapters 2 and 3).
+// A small program for each mnemonic, on numbers worked by hand from the manual's definition of each (Power ISA 3.1, book I).
 // A row is the assembly, its words in hex, what r4 and r5 hold at first, and what is wanted of it.
 use crate::test_programs::{CONDITION, left_in_r3, number_of, row_of, world};
 use std::alloc::Global;

@@ -1,5 +1,5 @@
-// A machine that runs static executables for little-endian 64-bit Power (Power ISA 3.1, books I and III; ELFv2 ABI for the start): registers,
-// memory, fetches, operations and four system calls, in a world that answers reads and writes.
+// A machine that runs static executables for little-endian 64-bit Power (Power ISA 3.1, books I and III; ELFv2 ABI for the start):
+// registers, memory, fetches, operations and four system calls, in a world that answers reads and writes.
 #![tactic(auto)]
 
 mod calls;

@@ -71,7 +71,7 @@ fn regions_of(alloc: Global, segments: Vec<Segment>) -> Result<Vec<Region>, Memo
 }
 
 impl Machine {
-    /// The machine at the start of a program (ELFv2 ABI, 4.1 "Process initialization"): r1 is the stack pointer, r12 the entry, and every
+    /// The machine at the start of a program (ELFv2 ABI, "Process Initialization"): r1 is the stack pointer, r12 the entry, and every
     /// other register 0. The stack of zeros lies from 0x7F800000 to 0x80000000. The segments' bytes are moved and not copied.
     pub fn load(alloc: Global, segments: Segments) -> Result<Machine, Memory>
         requires { ArePlaced segments.list.items }

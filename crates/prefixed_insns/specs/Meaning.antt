@@ -1,5 +1,5 @@
 -- What each prefixed instruction does: what its one-word form does, with a displacement of 34 bits and, where R is set, with the
--- address of the prefix as base (Power ISA 3.1, book I, 3.3.2 to 3.3.9).
+-- address of the prefix as base (Power ISA 3.1, book I, "Fixed-Point Facility").
 use Rattle.std.specs.Prelude.{ℕ, pos, Bool, true, false}
 use Rattle.power_insns.specs.declared.instruction.Insn.{Insn}
 use Rattle.power_insns.specs.declared.instruction.Insn.TheVariants.{Addi, Lwz, Lbz, Lhz, Lha, Lwa, Ld, Stw, Stb, Sth, Std}

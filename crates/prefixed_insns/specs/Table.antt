@@ -1,5 +1,5 @@
--- The two words of each prefixed instruction (Power ISA 3.1, book I, 1.6.3 "Prefixed instruction formats": MLS:D-form and
--- 8LS:D-form; the opcodes stand at each instruction, 3.3.2 to 3.3.9).
+-- The two words of each prefixed instruction (Power ISA 3.1, book I, "Instruction Formats": MLS:D-form and 8LS:D-form; the opcodes stand
+-- at each instruction, in "Fixed-Point Facility").
 use Rattle.std.specs.Prelude.{ℕ, ◌≡◌, ◌<◌, ◌/◌, ◌%◌, ◌^◌, true, List, [], ◌∷◌}
 use Rattle.power_insns.specs.Words.{Field, fld, word, flag, low_of, InSigned}
 use Rattle.prefixed_insns.specs.declared.instruction.POp.{POp}

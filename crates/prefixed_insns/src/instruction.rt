@@ -3,7 +3,7 @@ ghost use Rattle.std.specs.Prelude.{◌↔◌, IsTrue};
 ghost use Rattle.power_insns.specs.Words.{InSigned};
 ghost use Rattle.prefixed_insns.specs.Table.{Fits};
 
-/// The mnemonics of the prefixed instructions (Power ISA 3.1, book I, 3.3.2 to 3.3.9).
+/// The mnemonics of the prefixed instructions (Power ISA 3.1, book I, "Fixed-Point Facility").
 #[derive(Clone, Copy, Debug, PartialEq, Eq)]
 pub enum POp {
     /// Add immediate.

@@ -1,4 +1,4 @@
-// The instructions of two words, little-endian 64-bit Power (Power ISA 3.1, book I, 1.6.3 "Prefixed instruction formats"): the
+// The instructions of two words, little-endian 64-bit Power (Power ISA 3.1, book I, "Instruction Formats"): the
 // prefixed loads and stores and `paddi`, their words, both ways, and what each of them does, as an operation.
 #![tactic(auto)]
 

@@ -1,3 +1,4 @@
+-- One more segment gives one more region.
 use Rattle.power_machine.proofs.Regions.{regions_more, sound_more}
 use Rattle.power_machine.proofs.loading.regions_of.Goals as goal
 

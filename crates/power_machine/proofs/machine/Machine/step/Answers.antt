@@ -1,3 +1,4 @@
+-- Each outcome is the step over what stands at the next address: none, where the run has ended ..
 use Rattle.std.proofs.Common.{refl, subst}
 use Rattle.power_machine.specs.declared.code.Code.TheVariants.{Unfetched, Unknown, OneWord, TwoWords}
 use Rattle.power_machine.specs.Memory.{within}
@@ -10,12 +11,15 @@ use Rattle.power_machine.proofs.machine.Machine.step.Goals as goal
 pub returns-in-Some-clause-made : goal.returns-in-Some-clause-made
 returns-in-Some-clause-made c = made_over _ _ c.in-Some.status c.in-Some.is
 
+-- .. a leave where nothing can be fetched ..
 pub returns-in-Unfetched-clause-made : goal.returns-in-Unfetched-clause-made
 returns-in-Unfetched-clause-made c = made_by _ _ _ Unfetched _ c.in_default.is c.in-Unfetched.ensures (refl, refl)
 
+-- .. and where no instruction stands ..
 pub returns-in-Unknown-clause-made : goal.returns-in-Unknown-clause-made
 returns-in-Unknown-clause-made c = made_by _ _ _ Unknown _ c.in_default.is c.in-Unknown.ensures (refl, refl)
 
+-- .. the operation of an instruction of one word ..
 pub returns-in-OneWord-clause-made : goal.returns-in-OneWord-clause-made
 returns-in-OneWord-clause-made c =
     let r = run_of c.args.self.now c.args.world.now in
@@ -23,6 +27,7 @@ returns-in-OneWord-clause-made c =
     (subst (λ p. Performs (operates numbers (within (machine_ranges c.args.self.now)) r 4 p) r
     (run_of c.operate.new.self c.operate.new.world) c.operate.result) c.plan_for.ensures.plan c.operate.ensures.performs)
 
+-- .. and of one of two words.
 pub returns-in-TwoWords-clause-made : goal.returns-in-TwoWords-clause-made
 returns-in-TwoWords-clause-made c =
     let r = run_of c.args.self.now c.args.world.now in

@@ -1,3 +1,4 @@
+-- The bytes of the region that has them are those at the addresses: none without a region ..
 use Rattle.std.proofs.Common.{ap, ◌≡◌, ◌∙◌, ◌-◌, ◌+◌, take, drop, arith}
 use Rattle.power_machine.specs.declared.memory.Purpose.TheVariants.{Loading}
 use Rattle.power_machine.proofs.Places.{read_none, read_some}
@@ -8,6 +9,7 @@ returns-in_default c =
     read_none (λ xs. xs) Loading _ _ c.args.at c.args.room c.args.count c.place.result c.deref.ensures.value
     c.in_default.is c.place.ensures.value
 
+-- .. and the first of them where there is one
 pub returns : goal.returns
 returns c =
     read_some (λ xs. xs) Loading c.args.self.now.regions.items _ c.args.at c.args.room c.args.count c.place.result

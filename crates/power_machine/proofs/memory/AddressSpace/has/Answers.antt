@@ -1,3 +1,4 @@
+-- A region that has the bytes is one range that allows them.
 use Rattle.std.proofs.Common.{refl, ◌∙◌}
 use Rattle.power_machine.proofs.Places.{allowed_is}
 use Rattle.power_machine.proofs.memory.AddressSpace.has.Goals as goal

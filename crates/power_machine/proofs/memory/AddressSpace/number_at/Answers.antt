@@ -1,3 +1,4 @@
+-- The bytes of the region that has them spell the number: none without a region ..
 use Rattle.std.proofs.Common.{ap, ◌∙◌, ◌-◌, take, drop, arith, subst}
 use Rattle.power_insns.specs.Arithmetic.{bytes_of}
 use Rattle.power_machine.specs.Bytes.{spelled}
@@ -11,6 +12,7 @@ returns-in_default-clause-value c =
     read_none spelled c.args.purpose _ _ c.args.at n n c.place.result c.deref.ensures.value c.in_default.is
     (c.place.ensures.value ∙ ap (λ k. place_of c.args.purpose c.args.at k c.deref.result.now) c.size_of.ensures)
 
+-- .. and their number where there is one
 pub returns-clause-value : goal.returns-clause-value
 returns-clause-value c =
     let n = bytes_of c.args.width in
