@@ -1,5 +1,5 @@
 // The bytes of headers and entries.
-ghost use Rattle.std.specs.Prelude.{◌≡◌, length};
+ghost use Rattle.std.specs.Prelude.{◌≡◌, ◌++◌, OnOk, IfOk};
 
 use crate::header::FileHeader;
 use crate::section::{Record, Stated, Symbol};
@@ -110,7 +110,9 @@ pub fn file_header_bytes(header: &FileHeader, start: u64, count: u16, names: u16
 }
 
 /// Puts bytes behind others.
-pub fn append(to: &mut Vec<u8>, bytes: &[u8]) -> Result<(), Memory> {
+pub fn append(to: &mut Vec<u8>, bytes: &[u8]) -> Result<(), Memory>
+    ensures { OnOk result (to.new.items ≡ to.old.items ++ bytes.now) }
+{
     to.extend_from_slice(bytes)?;
     Ok(())
 }
@@ -124,11 +126,15 @@ pub fn append_name(names: &mut Vec<u8>, name: &[u8]) -> Result<u32, Memory> {
 }
 
 /// A count as a number of four bytes. An object with more has no place in memory.
-pub fn word_of(count: usize) -> Result<u32, Memory> {
+pub fn word_of(count: usize) -> Result<u32, Memory>
+    ensures { IfOk result (λ number. number ≡ count) }
+{
     u32::try_from(count).map_err(|_| Memory)
 }
 
 /// A count as a number of two bytes, likewise.
-pub fn half_of(count: u32) -> Result<u16, Memory> {
+pub fn half_of(count: u32) -> Result<u16, Memory>
+    ensures { IfOk result (λ number. number ≡ count) }
+{
     u16::try_from(count).map_err(|_| Memory)
 }

@@ -1,4 +1,6 @@
 // An object file.
+ghost use Rattle.std.specs.Prelude.{◌≤◌, IfOk, vec_len};
+
 use crate::encoding::{
     Header, append, append_name, file_header_bytes, half_of, record_bytes, symbol_bytes, word_of,
 };
@@ -202,8 +204,10 @@ impl<'a> Object<'a> {
         Ok(parts)
     }
 
-    /// The bytes of the file.
-    pub fn file(&self, alloc: Global) -> Result<Vec<u8>, Memory> {
+    /// The bytes of the file, which begin with its file header.
+    pub fn file(&self, alloc: Global) -> Result<Vec<u8>, Memory>
+        ensures { IfOk result (λ file. 64 ≤ vec_len file) }
+    {
         let mut parts = self.parts(alloc)?;
         let last = parts.count;
         let name = append_name(&mut parts.names, b".shstrtab")?;
