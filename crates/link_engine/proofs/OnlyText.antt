@@ -18,7 +18,8 @@ use Rattle.symbol_table.specs.declared.target.CodePlace.{CodePlace}
 use Rattle.symbol_table.specs.Text.{text_sections}
 use Rattle.symbol_table.specs.Candidates.{duplicate_refusal}
 use Rattle.symbol_table.specs.Targets.{entry_place, entry_refusal, resolve_refusal}
-use Rattle.symbol_table.specs.Resolved.{ResolvedFiles}
+use Rattle.object_set.specs.declared.places.SectionId.{SectionId}
+use Rattle.symbol_table.specs.Resolved.{ResolvedFiles, section_id}
 use Rattle.symbol_table.specs.laws.Text.{text_index_found, text_index_within}
 use Rattle.symbol_table.specs.laws.Targets.{IsInstructionAt, entry_instruction}
 use Rattle.link_engine.specs.Stage.{first_kept, is_at, section_not_built, symbol_not_built, not_built_at, not_built, IsEntered}
@@ -104,15 +105,26 @@ only_place set place file section whole built entered =
 some_same : {X : Type 0} {x y : X} → Some x ≡ Some y → x ≡ y
 some_same is = cc
 
+pair_case : (at : ℕ × ℕ) (file section : ℕ) → section_id (file, section) ≡ section_id at → (file, section) ≡ at
+pair_case at file section is =
+    let f : file ≡ at.0 = ap (λ (s : SectionId). s.file) is in
+    let n : section ≡ at.1 = ap (λ (s : SectionId). s.section) is in
+    ap (λ (i : ℕ). (i, section)) f ∙ ap (λ (i : ℕ). (at.0, i)) n
+
 -- the section in which the files are entered is the only one
-pub only_text : (set : List (List ℕ)) (place place' : CodePlace) (file section : ℕ) (at : ℕ × ℕ) → set_refusal set ≡ None → not_built set ≡ None →
-    IsInstructionAt set place file section → place' ≡ place → slice_get (text_sections set) place'.section ≡ Some at → IsOnlyText set place.offset at
+pub only_text : (set : List (List ℕ)) (place place' : CodePlace) (file section : ℕ) (at : ℕ × ℕ) →
+    set_refusal set ≡ None →
+    not_built set ≡ None →
+    IsInstructionAt set place file section →
+    place' ≡ place →
+    slice_get (text_sections set) place'.section ≡ Some (section_id at) →
+    IsOnlyText set place.offset at
 only_text set place place' file section at whole built inside same found =
     let lies = inside.lies in
-    let numbered : slice_get (text_sections set) place'.section ≡ Some (file, section) =
+    let numbered : slice_get (text_sections set) place'.section ≡ Some (section_id (file, section)) =
     ap (λ (p : CodePlace). slice_get (text_sections set) p.section) same ∙ ap (slice_get (text_sections set)) (sym lies.index)
     ∙ text_index_found set file section lies.file_in lies.within lies.text in
-    let this : (file, section) ≡ at = some_same (sym numbered ∙ found) in
+    let this : (file, section) ≡ at = pair_case at file section (some_same (sym numbered ∙ found)) in
     subst (IsOnlyText set place.offset) this (only_place set place file section whole built inside)
 
 -- the number of that section is one of a text section

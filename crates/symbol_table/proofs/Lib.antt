@@ -1,8 +1,6 @@
-pub mod Items
 pub mod Keys
 pub mod Distinct
 pub mod Steps
 pub mod NameTables
 pub mod Numbers
-pub mod Texts
 pub mod NumberedCommons

@@ -3,7 +3,7 @@ use Rattle.std.proofs.Common.{◌≡◌, ◌<◌, ℕ, ◌+◌, List, [], ◌∷
 use Rattle.std.specs.Prelude.{filter_map}
 use Rattle.std.proofs.lemmas.List.{take_more}
 use Rattle.std.proofs.lemmas.List.Elements.{filter_map-append}
-use Rattle.symbol_table.specs.declared.ids.CommonSize.{CommonSize}
+use Rattle.symbol_table.specs.declared.candidates.CommonSize.{CommonSize}
 use Rattle.symbol_table.specs.declared.candidates.Candidates.{Candidates}
 use Rattle.symbol_table.specs.Candidates.{resolution_of, common_in, commons_before}
 use Rattle.symbol_table.specs.inside.Commons.{common_list}

@@ -5,9 +5,12 @@ use Rattle.std.proofs.lemmas.List.{append_assoc}
 use Rattle.std.specs.List.{list_any}
 use Rattle.std.specs.Str.{bytes_eq}
 use Rattle.object_set.specs.Symbols.{is_local}
-use Rattle.symbol_table.specs.Externals.{External, external_symbol, externals_in, external_at, with_name}
+use Rattle.symbol_table.specs.Externals.{External, external_symbol, external_walk, external_at, with_name}
 use Rattle.symbol_table.specs.inside.Names.{KeepsNumbers, HasNumber, AreNameNumbers, AreFileNumbers, AreAllNameNumbers}
-use Rattle.symbol_table.proofs.Items.{weaker, one_more}
+use Rattle.object_set.specs.Files.{file_at}
+use Rattle.object_set.specs.Walks.{items_in}
+use Rattle.object_set.specs.laws.Rows.{row_more, row_weaker, rows_more, rows_weaker}
+use Rattle.elf64_records.specs.Symbols.{symbol_count}
 
 -- a number stays where names keep theirs
 pub number_kept : (old new : List (List ℕ)) (b : List ℕ) (j k : ℕ) → KeepsNumbers old new → HasNumber old b j k → HasNumber new b j k
@@ -17,22 +20,25 @@ number_kept old new b j k keeps has = λ external. keeps k _ (has external)
 pub numbers_more : (old new : List (List ℕ)) (b : List ℕ) (n : ℕ) (row : List ℕ) (k : ℕ) → AreNameNumbers old b n row → KeepsNumbers old new →
     HasNumber new b n k → AreNameNumbers new b (n + 1) (row ++ k ∷ [])
 numbers_more old new b n row k are keeps this =
-    one_more (HasNumber new b) n row k
-    (weaker (HasNumber old b) (HasNumber new b) n row (λ j i has. number_kept old new b j i keeps has) are) this
+    row_more (HasNumber new b) n row k
+    (row_weaker (HasNumber old b) (HasNumber new b) n row (λ j i within has. number_kept old new b j i keeps has) are) this
 
 -- one file more
 pub all_numbers_more : (old new : List (List ℕ)) (files : List (List ℕ)) (n : ℕ) (rows : List (List ℕ)) (row : List ℕ) →
     AreAllNameNumbers old files n rows → KeepsNumbers old new → AreFileNumbers new files n row → AreAllNameNumbers new files (n + 1) (rows ++ row ∷ [])
 all_numbers_more old new files n rows row are keeps this =
-    one_more (AreFileNumbers new files) n rows row
-    (weaker (AreFileNumbers old files) (AreFileNumbers new files) n rows
-    (λ file r. weaker (HasNumber old _) (HasNumber new _) _ r (λ j i has. number_kept old new _ j i keeps has)) are) this
+    let count = λ (file : ℕ). symbol_count (file_at files file) in
+    let before = λ (file : ℕ). HasNumber old (file_at files file) in
+    let after = λ (file : ℕ). HasNumber new (file_at files file) in
+    rows_more after count n rows row
+    (rows_weaker before after count n rows
+    (λ file j k file_in within has. number_kept old new (file_at files file) j k keeps has) are) this
 
 pub external_step : (symbols : List External) (file : ℕ) (b : List ℕ) (j : ℕ) →
-    (symbols ++ externals_in file b j) ++ external_at file b j ≡ symbols ++ externals_in file b (j + 1)
+    (symbols ++ items_in external_walk file b j) ++ external_at file b j ≡ symbols ++ items_in external_walk file b (j + 1)
 external_step symbols file b j =
-    append_assoc symbols (externals_in file b j) (external_at file b j)
-    ∙ ap (λ (n : ℕ). symbols ++ externals_in file b n) (sym (add-one j))
+    append_assoc symbols (items_in external_walk file b j) (external_at file b j)
+    ∙ ap (λ (n : ℕ). symbols ++ items_in external_walk file b n) (sym (add-one j))
 
 pub read_at : {X : Type 0} (xs : List X) (k : ℕ) (x d : X) → slice_get xs k ≡ Some x → slice_index_or xs k d ≡ x
 read_at [] k x d found = cc

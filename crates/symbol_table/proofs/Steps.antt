@@ -11,7 +11,7 @@ use Rattle.symbol_table.proofs.Distinct.{IsOnce, Empty, once_with_name, absent, 
 use Rattle.symbol_table.specs.declared.role.Role.{Role}
 use Rattle.symbol_table.specs.declared.role.Role.TheVariants as role
 use Rattle.symbol_table.specs.declared.candidates.Candidates.{Candidates}
-use Rattle.symbol_table.specs.declared.ids.CommonSize.{CommonSize}
+use Rattle.symbol_table.specs.declared.candidates.CommonSize.{CommonSize}
 use Rattle.symbol_table.specs.Externals.{External, names_of, with_name}
 use Rattle.symbol_table.specs.Candidates.{is_global_role, is_common_role, is_weak_role, bearing, id_of, largest, common_of, candidates_of, no_candidates}
 use Rattle.symbol_table.specs.inside.Names.{with_candidate, larger_common}

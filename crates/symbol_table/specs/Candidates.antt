@@ -7,8 +7,8 @@ use Rattle.std.specs.Str.{bytes_eq}
 use Rattle.elf64_records.specs.First.{first_from}
 use Rattle.object_set.specs.declared.refusal.Refusal.{Refusal}
 use Rattle.object_set.specs.declared.refusal.Refusal.TheVariants.{Duplicate}
-use Rattle.symbol_table.specs.declared.ids.SymbolId.{SymbolId}
-use Rattle.symbol_table.specs.declared.ids.CommonSize.{CommonSize}
+use Rattle.object_set.specs.declared.places.SymbolId.{SymbolId}
+use Rattle.symbol_table.specs.declared.candidates.CommonSize.{CommonSize}
 use Rattle.symbol_table.specs.declared.role.Role.{Role}
 use Rattle.symbol_table.specs.declared.role.Role.TheVariants as role
 use Rattle.symbol_table.specs.declared.candidates.Candidates.{Candidates}
@@ -40,7 +40,7 @@ bearing does name symbols = filter (λ s. bytes_eq name s.name && does s.role) s
 
 -- a symbol's file and number
 abbrev pub id_of : External → SymbolId
-id_of s = record { file = s.file; number = s.number }
+id_of s = record { file = s.file; symbol = s.number }
 
 -- the largest size and the largest alignment among commons
 abbrev pub largest : List External → CommonSize

@@ -1,10 +1,10 @@
 -- The symbols that other files see (ELF64, "Symbol Table": STB_GLOBAL and STB_WEAK), in order of file and symbol number, and their
 -- names in the order in which they are first seen.
-use Rattle.std.specs.Prelude.{ℕ, zero, suc, List, [], ◌∷◌, ◌++◌, ◌||◌, length, fold, if◌then◌else◌}
+use Rattle.std.specs.Prelude.{ℕ, List, [], ◌∷◌, ◌++◌, ◌||◌, fold, if◌then◌else◌}
 use Rattle.std.specs.List.{list_any}
 use Rattle.std.specs.Str.{bytes_eq}
 use Rattle.elf64_records.specs.Symbols.{symbol_count, st_size, st_value}
-use Rattle.object_set.specs.Files.{file_at}
+use Rattle.object_set.specs.Walks.{Walk, all_items}
 use Rattle.object_set.specs.Symbols.{name_of, is_local, is_global, is_absolute, is_common, lies_in_kept}
 use Rattle.symbol_table.specs.declared.role.Role.{Role}
 use Rattle.symbol_table.specs.declared.role.Role.TheVariants.{Global, Common, Weak, Reference}
@@ -40,21 +40,12 @@ external_symbol file b j = record {
 abbrev pub external_at : ℕ → List ℕ → ℕ → List External
 external_at file b j = if is_local b j then [] else external_symbol file b j ∷ []
 
--- those among the first n symbols of a file
-abbrev pub externals_in : ℕ → List ℕ → ℕ → List External
-externals_in file b zero = []
-externals_in file b (suc n) = externals_in file b n ++ external_at file b n
+-- those of all files, in order of file and symbol number
+abbrev pub external_walk : Walk External
+external_walk = record { count = symbol_count; items = external_at }
 
--- those of the first n files
-abbrev pub externals_before : List (List ℕ) → ℕ → List External
-externals_before files zero = []
-externals_before files (suc n) =
-    externals_before files n
-    ++ externals_in n (file_at files n) (symbol_count (file_at files n))
-
--- those of all files
 abbrev pub external_symbols : List (List ℕ) → List External
-external_symbols files = externals_before files (length files)
+external_symbols files = all_items external_walk files
 
 -- the names with one more, which goes last where it is new
 abbrev pub with_name : List (List ℕ) → List ℕ → List (List ℕ)

@@ -15,7 +15,7 @@ use Rattle.symbol_table.specs.declared.target.CodePlace.{CodePlace}
 use Rattle.symbol_table.specs.declared.target.Piece.TheVariants as piece
 use Rattle.symbol_table.specs.declared.target.Target.{Target}
 use Rattle.symbol_table.specs.declared.target.Target.TheVariants as target
-use Rattle.symbol_table.specs.declared.ids.SymbolId.{SymbolId}
+use Rattle.object_set.specs.declared.places.SymbolId.{SymbolId}
 use Rattle.symbol_table.specs.Candidates.{stands_for, definition_in, common_number, duplicate_refusal}
 use Rattle.elf64_records.specs.First.{◌orelse◌}
 use Rattle.symbol_table.specs.Text.{text_index}
@@ -48,7 +48,7 @@ own_target files file j addend =
 
 -- where a name goes, moved by an addend; a weak symbol may stand for nothing
 abbrev pub named_target : List (List ℕ) → List ℕ → Bool → Resolution → ℤ → Option Target
-named_target files name weak (resolution.Definition s) addend = own_target files s.file s.number addend
+named_target files name weak (resolution.Definition s) addend = own_target files s.file s.symbol addend
 named_target files name weak (resolution.Common common) addend = Some (target.Data (piece.Common (common_number files name)) addend)
 named_target files name true resolution.Undefined addend = Some (target.WeakNone addend)
 named_target files name false resolution.Undefined addend = None
@@ -77,7 +77,7 @@ abbrev pub definition_of : List (List ℕ) → ℕ → ℕ → Option SymbolId
 definition_of files file j =
     let b = file_at files file in
     if j == 0 || is_toc_base b j then None
-    else (if is_local b j then (if is_defined b j then Some (record { file = file; number = j }) else None)
+    else (if is_local b j then (if is_defined b j then Some (record { file = file; symbol = j }) else None)
     else definition_in (stands_for files (name_of b j)))
 
 -- an instruction stands at an offset of section i of a file: in text, at a multiple of 4 below the section's size
@@ -102,7 +102,7 @@ pub record IsPlaced (files : List (List ℕ)) (file number : ℕ) : Type 0 where
 
 -- why an entry's name is refused
 abbrev pub entry_fault : List (List ℕ) → List ℕ → Resolution → Option Refusal
-entry_fault files entry (resolution.Definition s) = if is_some (instruction_at files s.file s.number) then None else Some (EntryNotCode entry)
+entry_fault files entry (resolution.Definition s) = if is_some (instruction_at files s.file s.symbol) then None else Some (EntryNotCode entry)
 entry_fault files entry (resolution.Common common) = Some (EntryNotCode entry)
 entry_fault files entry resolution.Undefined = Some (NoEntry entry)
 
@@ -111,7 +111,7 @@ entry_refusal files entry = entry_fault files entry (stands_for files entry)
 
 -- the place of the entry's definition in text
 abbrev pub entry_at : List (List ℕ) → Resolution → CodePlace
-entry_at files (resolution.Definition s) = unwrap_or (instruction_at files s.file s.number) (record { section = 0; offset = 0 })
+entry_at files (resolution.Definition s) = unwrap_or (instruction_at files s.file s.symbol) (record { section = 0; offset = 0 })
 entry_at files (resolution.Common common) = record { section = 0; offset = 0 }
 entry_at files resolution.Undefined = record { section = 0; offset = 0 }
 

@@ -1,5 +1,4 @@
 -- Words of private contracts.
-pub mod Items
 pub mod Keys
 pub mod Names
 pub mod Commons

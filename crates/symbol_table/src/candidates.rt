@@ -3,8 +3,17 @@ ghost use Rattle.std.specs.Prelude.{◌≡◌};
 ghost use Rattle.symbol_table.specs.Candidates.{resolution_of, definition_in, no_candidates};
 ghost use Rattle.symbol_table.specs.inside.Names.{larger_common, with_candidate, external_of};
 
-use crate::ids::{CommonSize, SymbolId};
 use crate::role::{ExternalSymbol, Role};
+use object_set::SymbolId;
+
+/// How large a common is.
+#[derive(Clone, Copy)]
+pub struct CommonSize {
+    /// The size in bytes.
+    pub size: u64,
+    /// The alignment in bytes.
+    pub align: u64,
+}
 
 /// What a name stands for.
 #[derive(Clone, Copy)]
@@ -74,7 +83,7 @@ impl Candidates {
     {
         let id = SymbolId {
             file: symbol.file,
-            number: symbol.number,
+            symbol: symbol.number,
         };
         let mut candidates = self;
         match symbol.role {

@@ -3,8 +3,7 @@ ghost use Rattle.std.specs.Prelude.{◌≡◌, ◌++◌, IfOk, OnOk};
 ghost use Rattle.symbol_table.specs.Candidates.{resolution_of, common_in};
 ghost use Rattle.symbol_table.specs.inside.Commons.{common_list, AreCommons};
 
-use crate::candidates::{Candidates, Resolution};
-use crate::ids::CommonSize;
+use crate::candidates::{Candidates, CommonSize, Resolution};
 use std::alloc::{AllocError, Global};
 
 /// The commons in first-seen order of their names, and for each name how many commons stand before it.

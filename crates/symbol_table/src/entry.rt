@@ -25,7 +25,7 @@ pub fn find_entry(
     ensures place { IfOk result (λ p. p ≡ entry_place texts.now entry.now) }
 {
     match resolution {
-        Resolution::Definition(symbol) => match instruction(texts, symbol.file, symbol.number) {
+        Resolution::Definition(symbol) => match instruction(texts, symbol.file, symbol.symbol) {
             Some(place) => Ok(place),
             None => Err(Refusal::EntryNotCode(owned(alloc, entry)?)),
         },

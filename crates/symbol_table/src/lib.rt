@@ -6,7 +6,6 @@ mod candidates;
 mod commons;
 mod definition;
 mod entry;
-mod ids;
 mod names;
 mod resolutions;
 mod resolved;

@@ -8,9 +8,8 @@ ghost use Rattle.symbol_table.specs.Externals.{external_symbols, names_of};
 ghost use Rattle.symbol_table.specs.Candidates.{names_seen, stands_for, all_commons, common_number};
 ghost use Rattle.symbol_table.specs.inside.Names.{AreAllNameNumbers};
 
-use crate::candidates::{Candidates, Resolution};
+use crate::candidates::{Candidates, CommonSize, Resolution};
 use crate::commons::{Commons, commons_of};
-use crate::ids::CommonSize;
 use crate::table::{NameNumbers, NameTable};
 use object_set::ObjectSet;
 use std::alloc::{AllocError, Global};

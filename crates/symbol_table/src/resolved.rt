@@ -9,17 +9,16 @@ ghost use Rattle.object_set.specs.Symbols.{is_local, name_of};
 ghost use Rattle.symbol_table.specs.Text.{text_sections, text_number};
 ghost use Rattle.symbol_table.specs.Candidates.{all_commons, common_number, stands_for};
 ghost use Rattle.symbol_table.specs.Targets.{definition_of, external_target, target_of, entry_place, resolve_refusal};
-ghost use Rattle.symbol_table.specs.Resolved.{pair_of, size_pair};
+ghost use Rattle.symbol_table.specs.Resolved.{pair_of, size_pair, section_id};
 
 use crate::candidates::Resolution;
 use crate::definition::{is_defined, own_target, plus_addend};
 use crate::entry::find_entry;
-use crate::ids::SymbolId;
 use crate::resolutions::Resolutions;
 use crate::table::name_table;
 use crate::target::{CodePlace, Piece, Target};
 use crate::text::TextSections;
-use object_set::{ObjectSet, Refusal};
+use object_set::{ObjectSet, Refusal, SymbolId};
 use std::alloc::Global;
 use std::marker::Model;
 
@@ -91,9 +90,10 @@ impl<'a, 'b> Resolved<'a, 'b> {
     /// The file and section number of a text section.
     pub fn text_of(&self, section: u32) -> (u32, u32)
         requires { section < length (text_sections self.now.files) }
-        ensures { slice_get (text_sections self.now.files) section ≡ Some result }
+        ensures { slice_get (text_sections self.now.files) section ≡ Some (section_id result) }
     {
-        self.texts.section_at(section)
+        let id = self.texts.section_at(section);
+        (id.file, id.section)
     }
 
     /// The number of a section among the text sections, if it is one.
@@ -154,10 +154,7 @@ impl<'a, 'b> Resolved<'a, 'b> {
             None
         } else if set.is_local(file, symbol) {
             if is_defined(set, file, symbol) {
-                Some(SymbolId {
-                    file,
-                    number: symbol,
-                })
+                Some(SymbolId { file, symbol })
             } else {
                 None
             }
@@ -174,7 +171,7 @@ impl<'a, 'b> Resolved<'a, 'b> {
         ensures { result ≡ option_map pair_of (definition_of self.now.files file symbol) }
     {
         match self.find_definition(file, symbol) {
-            Some(definition) => Some((definition.file, definition.number)),
+            Some(definition) => Some((definition.file, definition.symbol)),
             None => None,
         }
     }
@@ -188,7 +185,7 @@ impl<'a, 'b> Resolved<'a, 'b> {
     {
         match self.resolution_at(file, symbol) {
             Resolution::Definition(definition) => {
-                own_target(&self.texts, definition.file, definition.number, addend)
+                own_target(&self.texts, definition.file, definition.symbol, addend)
             }
             Resolution::Common(_) => Some(Target::Data {
                 piece: Piece::Common(self.common_number(file, symbol)),

@@ -4,7 +4,8 @@ ghost use Rattle.elf64_records.specs.Symbols.{symbol_count};
 ghost use Rattle.object_set.specs.Files.{file_at};
 ghost use Rattle.object_set.specs.Refusals.{set_refusal, Answers};
 ghost use Rattle.object_set.specs.Symbols.{is_local};
-ghost use Rattle.symbol_table.specs.Externals.{External, external_symbol, external_at, externals_in, external_symbols, names_of, with_name};
+ghost use Rattle.symbol_table.specs.Externals.{External, external_symbol, external_at, external_walk, external_symbols, names_of, with_name};
+ghost use Rattle.object_set.specs.Walks.{items_in};
 ghost use Rattle.symbol_table.specs.Candidates.{names_seen, candidates_of, duplicate_at, first_duplicate};
 ghost use Rattle.symbol_table.specs.inside.Names.{IsPaired, SeesMore, HasNumber, KeepsNumbers, AreFileNumbers, AreAllNameNumbers, candidates_of_new, external_of};
 
@@ -200,7 +201,7 @@ fn read_file<'a>(
     requires paired { IsPaired table.old }
     requires file { file < length set.now }
     ensures seen { let b = file_at set.now file in OnOk result (
-        SeesMore table.old table.new (externals_in file b (symbol_count b))) }
+        SeesMore table.old table.new (items_in external_walk file b (symbol_count b))) }
     ensures keeps { OnOk result (KeepsNumbers table.old.names table.new.names) }
     ensures numbers { IfOk result (AreFileNumbers table.new.names set.now file) }
     ensures paired { OnOk result (IsPaired table.new) }

@@ -1,11 +1,12 @@
 // The text sections of a set of files, numbered in order of file and section.
-ghost use Rattle.std.specs.Prelude.{◌≡◌, ◌≤◌, ◌<◌, ◌++◌, Some, IfOk, OnOk, length, slice_get, slice_index};
+ghost use Rattle.std.specs.Prelude.{◌≡◌, ◌≤◌, ◌<◌, ◌++◌, ◌+◌, Some, IfOk, OnOk, length, slice_get, slice_index};
 ghost use Rattle.elf64_records.specs.FileHeader.{e_shnum};
 ghost use Rattle.object_set.specs.Files.{file_at};
-ghost use Rattle.symbol_table.specs.Text.{text_index, text_number, text_at, text_in, text_before, text_sections};
+ghost use Rattle.object_set.specs.Walks.{items_before};
+ghost use Rattle.symbol_table.specs.Text.{text_walk, text_index, text_number, text_at, text_sections};
 ghost use Rattle.symbol_table.specs.inside.Text.{AreFileIndexes};
 
-use object_set::ObjectSet;
+use object_set::{ObjectSet, SectionId};
 use std::alloc::{AllocError, Global};
 use std::marker::Model;
 
@@ -38,7 +39,7 @@ impl TextIndexes {
 
 /// Puts a section behind others, where it is text.
 fn push_text(
-    texts: &mut Vec<(u32, u32)>,
+    texts: &mut Vec<SectionId>,
     set: &ObjectSet,
     file: u32,
     section: u32,
@@ -49,7 +50,7 @@ fn push_text(
         texts.new.items ≡ texts.old.items ++ text_at file (file_at set.now file) section) }
 {
     if set.sort_of(file, section).is_text() {
-        texts.push((file, section))?;
+        texts.push(SectionId { file, section })?;
     }
     Ok(())
 }
@@ -57,14 +58,13 @@ fn push_text(
 /// Puts the text sections of a file behind those of the files before it, and says how many stand before each of its sections.
 fn push_file(
     alloc: Global,
-    texts: &mut Vec<(u32, u32)>,
+    texts: &mut Vec<SectionId>,
     set: &ObjectSet,
     file: u32,
 ) -> Result<TextIndexes, AllocError>
     requires file { file < length set.now }
-    requires before { texts.old.items ≡ text_before set.now file }
-    ensures texts { let b = file_at set.now file in OnOk result (
-        texts.new.items ≡ text_before set.now file ++ text_in file b (e_shnum b)) }
+    requires before { texts.old.items ≡ items_before text_walk set.now file }
+    ensures texts { OnOk result (texts.new.items ≡ items_before text_walk set.now (file + 1)) }
     ensures indexes { IfOk result (AreFileIndexes set.now file) }
 {
     let mut items = Vec::new(alloc);
@@ -82,7 +82,7 @@ fn push_file(
 #[derive(Drop)]
 pub struct TextSections<'a, 'b> {
     set: &'b ObjectSet<'a>,
-    items: Vec<(u32, u32)>,
+    items: Vec<SectionId>,
     indexes: Vec<TextIndexes>,
 }
 
@@ -133,7 +133,7 @@ impl<'a, 'b> TextSections<'a, 'b> {
     }
 
     /// The file and section number of a text section.
-    pub fn section_at(&self, number: u32) -> (u32, u32)
+    pub fn section_at(&self, number: u32) -> SectionId
         requires { number < length (text_sections self.now) }
         ensures { slice_get (text_sections self.now) number ≡ Some result }
     {

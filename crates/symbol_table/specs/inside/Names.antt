@@ -6,13 +6,13 @@ use Rattle.elf64_records.specs.First.{◌orelse◌}
 use Rattle.elf64_records.specs.Symbols.{symbol_count}
 use Rattle.object_set.specs.Files.{file_at}
 use Rattle.object_set.specs.Symbols.{name_of, is_local}
-use Rattle.symbol_table.specs.declared.ids.CommonSize.{CommonSize}
+use Rattle.symbol_table.specs.declared.candidates.CommonSize.{CommonSize}
 use Rattle.symbol_table.specs.declared.role.Role.{Role}
 use Rattle.symbol_table.specs.declared.role.Role.TheVariants as role
 use Rattle.symbol_table.specs.declared.role.ExternalSymbol.{ExternalSymbol}
 use Rattle.symbol_table.specs.declared.candidates.Candidates.{Candidates}
 use Rattle.symbol_table.specs.Externals.{External}
-use Rattle.symbol_table.specs.inside.Items.{AreFor}
+use Rattle.object_set.specs.inside.Rows.{IsRow, AreRows}
 use Rattle.symbol_table.specs.Candidates.{id_of, no_candidates, NamesSeen, names_seen}
 
 -- a symbol, as its facts
@@ -56,7 +56,7 @@ KeepsNumbers old new = (k : ℕ) (name : List ℕ) → slice_get old k ≡ Some 
 
 -- the numbers of the names of the first n symbols of a file, but for LOCAL ones
 abbrev pub AreNameNumbers : List (List ℕ) → List ℕ → ℕ → List ℕ → Type 0
-AreNameNumbers names b n numbers = AreFor (HasNumber names b) n numbers
+AreNameNumbers names b n numbers = IsRow (HasNumber names b) n numbers
 
 -- those of all symbols of a file
 abbrev pub AreFileNumbers : List (List ℕ) → List (List ℕ) → ℕ → List ℕ → Type 0
@@ -65,4 +65,5 @@ AreFileNumbers names files file numbers =
 
 -- those of the first n files
 abbrev pub AreAllNameNumbers : List (List ℕ) → List (List ℕ) → ℕ → List (List ℕ) → Type 0
-AreAllNameNumbers names files n numbers = AreFor (AreFileNumbers names files) n numbers
+AreAllNameNumbers names files n numbers =
+    AreRows (λ file. HasNumber names (file_at files file)) (λ file. symbol_count (file_at files file)) n numbers

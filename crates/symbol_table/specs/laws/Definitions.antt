@@ -6,13 +6,14 @@ use Rattle.std.proofs.lemmas.Bool.{and_parts}
 use Rattle.elf64_records.specs.Symbols.{symbol_count}
 use Rattle.object_set.specs.Files.{file_at}
 use Rattle.object_set.specs.Symbols.{is_local, is_global, is_common}
-use Rattle.symbol_table.specs.declared.ids.SymbolId.{SymbolId}
-use Rattle.symbol_table.specs.declared.ids.CommonSize.{CommonSize}
+use Rattle.object_set.specs.declared.places.SymbolId.{SymbolId}
+use Rattle.object_set.specs.laws.Walks.{item_from}
+use Rattle.symbol_table.specs.declared.candidates.CommonSize.{CommonSize}
 use Rattle.symbol_table.specs.declared.role.Role.{Role}
 use Rattle.symbol_table.specs.declared.role.Role.TheVariants as role
 use Rattle.symbol_table.specs.declared.candidates.Resolution.TheVariants as resolution
 use Rattle.symbol_table.specs.Targets.{IsPlaced, is_defined}
-use Rattle.symbol_table.specs.Externals.{External, role_of, external_symbol, externals_in, externals_before, external_symbols, external_at}
+use Rattle.symbol_table.specs.Externals.{External, role_of, external_symbol, external_walk, external_symbols}
 use Rattle.symbol_table.specs.Candidates.{bearing, is_global_role, is_common_role, is_weak_role, id_of, common_of, first_resolution, stands_for}
 
 -- a symbol of one of the files, with what it does for its name
@@ -23,11 +24,6 @@ record IsExternal (set : List (List ℕ)) (s : External) : Type 0 where
 -- each of a list is such a symbol
 abbrev AllExternal : List (List ℕ) → List External → Type 0
 AllExternal set symbols = (k : ℕ) (s : External) → slice_get symbols k ≡ Some s → IsExternal set s
-
-append_externals : (set : List (List ℕ)) (xs ys : List External) → AllExternal set xs → AllExternal set ys → AllExternal set (xs ++ ys)
-append_externals set [] ys left right k s found = right k s found
-append_externals set (x ∷ xs) ys left right zero s found = left 0 s found
-append_externals set (x ∷ xs) ys left right (suc k) s found = append_externals set xs ys (λ i t f. left (suc i) t f) right k s found
 
 external_case : (set : List (List ℕ)) (file n : ℕ) (b : List ℕ) (local : Bool) → is_local b n ≡ local → b ≡ file_at set file → file < length set → n < symbol_count b →
     AllExternal set (if local then [] else external_symbol file b n ∷ [])
@@ -46,17 +42,12 @@ external_case set file (suc n) b false is same within below zero s found =
     }
 external_case set file (suc n) b false is same within below (suc k) s found = cc
 
-in_externals : (set : List (List ℕ)) (file n : ℕ) → file < length set → n ≤ symbol_count (file_at set file) → AllExternal set (externals_in file (file_at set file) n)
-in_externals set file zero within below k s found = cc
-in_externals set file (suc n) within below k s found =
-    append_externals set (externals_in file (file_at set file) n) (external_at file (file_at set file) n) (in_externals set file n within (omega arith))
-    (external_case set file n (file_at set file) (is_local (file_at set file) n) refl refl within (omega arith)) k s found
-
-before_externals : (set : List (List ℕ)) (n : ℕ) → n ≤ length set → AllExternal set (externals_before set n)
-before_externals set zero below k s found = cc
-before_externals set (suc n) below k s found =
-    append_externals set (externals_before set n) (externals_in n (file_at set n) (symbol_count (file_at set n))) (before_externals set n (omega arith))
-    (in_externals set n (symbol_count (file_at set n)) (omega arith) (omega arith)) k s found
+-- the symbols that other files see are such symbols
+all_external : (set : List (List ℕ)) → AllExternal set (external_symbols set)
+all_external set k s found =
+    let is = item_from external_walk set k s found in
+    let b = file_at set is.file in
+    external_case set is.file is.number b (is_local b is.number) refl refl is.file_in is.within is.offset s is.here
 
 -- each of those that pass a test
 record IsPicked (set : List (List ℕ)) (p : External → Bool) (s : External) : Type 0 where
@@ -79,8 +70,8 @@ filter_picks set p (x ∷ xs) all k s found = filter_case set p x xs (p x) refl 
 
 -- a definition: a symbol of one of the files that is a place or a number by itself
 pub record IsDefinition (set : List (List ℕ)) (d : SymbolId) : Type 0 where
-  pub placed : IsPlaced set d.file d.number
-  pub defined : is_defined (file_at set d.file) d.number ≡ true
+  pub placed : IsPlaced set d.file d.symbol
+  pub defined : is_defined (file_at set d.file) d.symbol ≡ true
 
 -- what is said of a name's definitions by their roles
 abbrev IsDefining : (Role → Bool) → Type 0
@@ -113,7 +104,7 @@ first_definition : (set : List (List ℕ)) (does : Role → Bool) (name : List �
     slice_get (bearing does name (external_symbols set)) 0 ≡ o → option_map id_of o ≡ Some d → IsDefinition set d
 first_definition set does name None d defining read is = cc
 first_definition set does name (Some s) d defining read is =
-    let all : AllExternal set (external_symbols set) = before_externals set (length set) (omega arith) in
+    let all : AllExternal set (external_symbols set) = all_external set in
     let this : id_of s ≡ d = cc in
     let picked = filter_picks set (λ t. bytes_eq name t.name && does t.role) (external_symbols set) all 0 s read in
     subst (IsDefinition set) this (picked_definition set does name s defining picked)
@@ -138,5 +129,5 @@ name_definition set name d is =
     (λ p at. first_definition set is_global_role name (slice_get (bearing is_global_role name symbols) 0) p defining_global refl at)
     (λ p at. first_definition set is_weak_role name (slice_get (bearing is_weak_role name symbols) 0) p defining_weak refl at) is
 
-pub definition_placed : (set : List (List ℕ)) (name : List ℕ) (d : SymbolId) → stands_for set name ≡ resolution.Definition d → IsPlaced set d.file d.number
+pub definition_placed : (set : List (List ℕ)) (name : List ℕ) (d : SymbolId) → stands_for set name ≡ resolution.Definition d → IsPlaced set d.file d.symbol
 definition_placed set name d is = (name_definition set name d is).placed

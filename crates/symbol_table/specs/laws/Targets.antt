@@ -22,7 +22,7 @@ use Rattle.symbol_table.specs.declared.candidates.Resolution.{Resolution}
 use Rattle.symbol_table.specs.declared.candidates.Resolution.TheVariants as resolution
 use Rattle.symbol_table.specs.declared.target.CodePlace.{CodePlace}
 use Rattle.symbol_table.specs.declared.target.Target.TheVariants as target
-use Rattle.symbol_table.specs.declared.ids.SymbolId.{SymbolId}
+use Rattle.object_set.specs.declared.places.SymbolId.{SymbolId}
 use Rattle.symbol_table.specs.Text.{text_sections, text_index}
 use Rattle.symbol_table.specs.laws.Text.{IsTextSection, text_index_within}
 use Rattle.symbol_table.specs.Targets.{IsPlaced, plus_addend, section_target, index_target, own_target, named_target, external_target, target_of, is_defined, definition_of, is_instruction, instruction_in, entry_fault, entry_refusal, entry_at, entry_place}
@@ -70,7 +70,7 @@ own_code set file j addend section offset false whole placed is =
 named_code : (set : List (List ℕ)) (name : List ℕ) (weak : Bool) (stands : Resolution) (addend : ℤ) (section offset : ℕ) → set_refusal set ≡ None → stands_for set name ≡ stands →
     named_target set name weak stands addend ≡ Some (target.Code section offset) → section < length (text_sections set)
 named_code set name weak (resolution.Definition s) addend section offset whole stands is =
-    own_code set s.file s.number addend section offset (is_absolute (file_at set s.file) s.number) whole (definition_placed set name s stands) is
+    own_code set s.file s.symbol addend section offset (is_absolute (file_at set s.file) s.symbol) whole (definition_placed set name s stands) is
 named_code set name weak (resolution.Common common) addend section offset whole stands is = cc
 named_code set name true resolution.Undefined addend section offset whole stands is = cc
 named_code set name false resolution.Undefined addend section offset whole stands is = cc
@@ -148,7 +148,7 @@ entry_case set file j (Some i) other r whole placed index passes =
 stands_case : (set : List (List ℕ)) (entry : List ℕ) (stands : Resolution) → set_refusal set ≡ None → stands_for set entry ≡ stands → entry_fault set entry stands ≡ None →
     (file : ℕ) × (section : ℕ) × IsInstructionAt set (entry_at set stands) file section
 stands_case set entry (resolution.Definition s) whole stands passes =
-    let found = entry_case set s.file s.number (section_index (file_at set s.file) s.number) (record { section = 0; offset = 0 }) (EntryNotCode entry) whole
+    let found = entry_case set s.file s.symbol (section_index (file_at set s.file) s.symbol) (record { section = 0; offset = 0 }) (EntryNotCode entry) whole
     (definition_placed set entry s stands) refl passes in
     (s.file, found.0, found.1)
 stands_case set entry (resolution.Common common) whole stands passes = cc
@@ -160,27 +160,27 @@ pub entry_instruction : (set : List (List ℕ)) (entry : List ℕ) → set_refus
 entry_instruction set entry whole passes = stands_case set entry (stands_for set entry) whole refl passes
 
 stands_target : (set : List (List ℕ)) (name : List ℕ) (weak : Bool) (stands : Resolution) (d : SymbolId) (addend : ℤ) → definition_in stands ≡ Some d →
-    named_target set name weak stands addend ≡ own_target set d.file d.number addend
+    named_target set name weak stands addend ≡ own_target set d.file d.symbol addend
 stands_target set name weak (resolution.Definition s) d addend is =
     let this : s ≡ d = cc in
-    ap (λ (i : SymbolId). own_target set i.file i.number addend) this
+    ap (λ (i : SymbolId). own_target set i.file i.symbol addend) this
 stands_target set name weak (resolution.Common common) d addend is = cc
 stands_target set name weak resolution.Undefined d addend is = cc
 
 definition_case : (set : List (List ℕ)) (file j : ℕ) (d : SymbolId) (addend : ℤ) (none base local own : Bool) →
     (if none || base then None
-    else (if local then (if own then Some (record { file = file; number = j }) else None)
+    else (if local then (if own then Some (record { file = file; symbol = j }) else None)
     else definition_in (stands_for set (name_of (file_at set file) j)))) ≡ Some d →
     (if none then Some (target.Number (plus_addend 0 addend))
     else (if base then Some (target.TocBase file addend)
     else (if local then own_target set file j addend
-    else external_target set file j addend))) ≡ own_target set d.file d.number addend
+    else external_target set file j addend))) ≡ own_target set d.file d.symbol addend
 definition_case set file j d addend true base local own is = cc
 definition_case set file j d addend false true local own is = cc
 definition_case set file j d addend false false true true is =
-    let here : SymbolId = record { file = file; number = j } in
+    let here : SymbolId = record { file = file; symbol = j } in
     let this : here ≡ d = cc in
-    ap (λ (i : SymbolId). own_target set i.file i.number addend) this
+    ap (λ (i : SymbolId). own_target set i.file i.symbol addend) this
 definition_case set file j d addend false false true false is = cc
 definition_case set file j d addend false false false own is =
     let b = file_at set file in
@@ -189,7 +189,7 @@ definition_case set file j d addend false false false own is =
 -- a symbol that has a definition goes where the definition lies
 pub definition_target : (set : List (List ℕ)) (file j : ℕ) (d : SymbolId) (addend : ℤ) →
     definition_of set file j ≡ Some d →
-    target_of set file j addend ≡ own_target set d.file d.number addend
+    target_of set file j addend ≡ own_target set d.file d.symbol addend
 definition_target set file j d addend is =
     let b = file_at set file in
     definition_case set file j d addend (j == 0) (is_toc_base b j) (is_local b j) (is_defined b j) is
@@ -204,14 +204,14 @@ defined_stands set name resolution.Undefined d stands is = cc
 definition_of_case : (set : List (List ℕ)) (file j : ℕ) (d : SymbolId) (none base local own : Bool) → (j == 0) ≡ none → is_defined (file_at set file) j ≡ own → file < length set →
     j < symbol_count (file_at set file) →
     (if none || base then None
-    else (if local then (if own then Some (record { file = file; number = j }) else None)
+    else (if local then (if own then Some (record { file = file; symbol = j }) else None)
     else definition_in (stands_for set (name_of (file_at set file) j)))) ≡ Some d →
     IsDefinition set d
 definition_of_case set file j d true base local own zeroth has file_in within is = cc
 definition_of_case set file j d false true local own zeroth has file_in within is = cc
 definition_of_case set file j d false false true true zeroth has file_in within is =
     let some : 0 < j = grind (arith, nat_tests, zeroth) in
-    let here : SymbolId = record { file = file; number = j } in
+    let here : SymbolId = record { file = file; symbol = j } in
     let this : here ≡ d = cc in
     subst (IsDefinition set) this (record { placed = record { file_in = file_in; some = some; within = within }; defined = has })
 definition_of_case set file j d false false true false zeroth has file_in within is = cc
@@ -253,4 +253,4 @@ definition_goes set file j d addend file_in within is =
     let b = file_at set d.file in
     let this = symbol_definition set file j d file_in within is in
     subst IsSome (sym (definition_target set file j d addend is))
-    (own_goes set d.file d.number (plus_addend (st_value b d.number) addend) (is_absolute b d.number) (has_section b d.number) this.defined)
+    (own_goes set d.file d.symbol (plus_addend (st_value b d.symbol) addend) (is_absolute b d.symbol) (has_section b d.symbol) this.defined)

@@ -2,12 +2,8 @@ use Rattle.std.proofs.Common.{◌≡◌, ◌<◌, length, arith, ap, ℕ, ◌+�
 use Rattle.symbol_table.specs.Candidates.{commons_before}
 use Rattle.symbol_table.specs.inside.Commons.{AreCommonNumbers}
 use Rattle.symbol_table.proofs.NumberedCommons.{commons_more}
-use Rattle.symbol_table.proofs.Items.{empty, one_more}
+use Rattle.object_set.specs.laws.Rows.{row_more}
 use Rattle.symbol_table.proofs.commons.commons_of.Goals as goal
-
--- no name is looked at yet
-pub loop-i-init : goal.loop-i-init
-loop-i-init c = record { sizes = c.new-sizes.ensures.items; numbers = empty (λ i k. k ≡ length (commons_before c.args.candidates.now i)) c.new-numbers.result.items c.new-numbers.ensures.items }
 
 -- one name more
 pub loop-i-preserved : goal.loop-i-preserved
@@ -18,7 +14,7 @@ loop-i-preserved c =
     let lens = ap length before.sizes in
     let count : c.len.result ≡ length (commons_before candidates i) = omega (arith, lens) in
     let within : i < length candidates = omega arith in
-    let more = one_more (λ j k. k ≡ length (commons_before candidates j)) i c.loop-i.numbers.items c.len.result before.numbers count in
+    let more = row_more (λ j k. k ≡ length (commons_before candidates j)) i c.loop-i.numbers.items c.len.result before.numbers count in
     record {
       sizes = commons_more candidates i _ c.loop-i.sizes.items c.push_common.new.sizes.items within before.sizes c.in_ok-push_common.ensures;
       numbers = subst (AreCommonNumbers candidates (i + 1)) (sym c.in_ok-push.ensures.items) more;

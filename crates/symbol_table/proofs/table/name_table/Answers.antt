@@ -1,14 +1,10 @@
 use Rattle.std.proofs.Common.{ap, ℕ, ◌+◌, ◌∙◌, sym, subst, add-one}
-use Rattle.symbol_table.specs.Externals.{externals_before}
+use Rattle.object_set.specs.Walks.{items_before}
+use Rattle.symbol_table.specs.Externals.{external_walk}
 use Rattle.symbol_table.specs.Candidates.{names_seen}
-use Rattle.symbol_table.specs.inside.Names.{AreFileNumbers, AreAllNameNumbers}
+use Rattle.symbol_table.specs.inside.Names.{AreAllNameNumbers}
 use Rattle.symbol_table.proofs.Numbers.{all_numbers_more}
-use Rattle.symbol_table.proofs.Items.{empty}
 use Rattle.symbol_table.proofs.table.name_table.Goals as goal
-
--- no file is read yet
-pub loop-file-init : goal.loop-file-init
-loop-file-init c = record { seen = c.new-table.ensures; numbers = empty (AreFileNumbers c.new-table.result.names c.args.set.now) c.new-numbers.result.items c.new-numbers.ensures.items }
 
 -- one file more is read
 pub loop-file-preserved : goal.loop-file-preserved
@@ -19,6 +15,6 @@ loop-file-preserved c =
     let now = c.in_ok-row.ensures in
     let more = all_numbers_more c.loop-file.table.names c.read_file.new.table.names set file c.loop-file.numbers.items c.in_ok-row.row before.numbers now.keeps now.numbers in
     record {
-      seen = now.seen (externals_before set file) before.seen ∙ ap (λ (n : ℕ). names_seen (externals_before set n)) (sym (add-one file));
+      seen = now.seen (items_before external_walk set file) before.seen ∙ ap (λ (n : ℕ). names_seen (items_before external_walk set n)) (sym (add-one file));
       numbers = subst (AreAllNameNumbers c.read_file.new.table.names set (file + 1)) (sym c.in_ok-push.ensures.items) more;
     }

@@ -1,21 +1,12 @@
 use Rattle.std.proofs.Common.{ap, ℕ, ◌+◌, ◌++◌, ◌∙◌, sym, subst}
 use Rattle.object_set.specs.Files.{file_at}
-use Rattle.symbol_table.specs.Externals.{externals_in}
+use Rattle.object_set.specs.Walks.{items_in}
+use Rattle.symbol_table.specs.Externals.{external_walk}
 use Rattle.symbol_table.specs.Candidates.{names_seen}
 use Rattle.symbol_table.specs.inside.Names.{AreNameNumbers, HasNumber}
 use Rattle.symbol_table.proofs.Numbers.{numbers_more, external_step}
-use Rattle.symbol_table.proofs.Items.{empty}
 use Rattle.symbol_table.proofs.Steps.{nil_right}
 use Rattle.symbol_table.proofs.table.read_file.Goals as goal
-
--- no symbol of the file is read yet
-pub loop-j-init : goal.loop-j-init
-loop-j-init c = record {
-  seen = λ symbols is. is ∙ ap names_seen (sym (nil_right symbols));
-  keeps = λ k name found. found;
-  numbers = empty (HasNumber c.args.table.now.names (file_at c.args.set.now c.args.file)) c.new-items.result.items c.new-items.ensures.items;
-  paired = c.requires.paired;
-}
 
 -- one symbol more of the file is read
 pub loop-j-preserved : goal.loop-j-preserved
@@ -27,7 +18,7 @@ loop-j-preserved c =
     let more = numbers_more c.loop-j.table.names c.read_symbol.new.table.names b j c.loop-j.items.items c.in_ok-number.number before.numbers now.keeps now.number in
     record {
       seen = λ symbols is.
-          now.seen (symbols ++ externals_in c.args.file b j) (before.seen symbols is) ∙ ap names_seen (external_step symbols c.args.file b j);
+          now.seen (symbols ++ items_in external_walk c.args.file b j) (before.seen symbols is) ∙ ap names_seen (external_step symbols c.args.file b j);
       keeps = λ k name found. now.keeps k name (before.keeps k name found);
       numbers = subst (AreNameNumbers c.read_symbol.new.table.names b (j + 1)) (sym c.in_ok-push.ensures.items) more;
       paired = now.paired;

@@ -8,6 +8,7 @@ use Rattle.symbol_table.specs.Candidates.{candidates_of, all_candidates, commons
 use Rattle.symbol_table.specs.inside.Commons.{AreCommons}
 use Rattle.symbol_table.proofs.Distinct.{position_once}
 use Rattle.symbol_table.proofs.Steps.{once_names}
+use Rattle.symbol_table.proofs.Numbers.{read_at}
 use Rattle.symbol_table.proofs.resolutions.Resolutions.common_number.Goals as goal
 
 -- as many commons stand before the name as its number says
@@ -22,6 +23,7 @@ returns c =
     let within = slice_get_within names k name c.name_number-number.ensures in
     let count = length-map names (candidates_of (external_symbols files)) in
     let inside : k < length numbers = omega (arith, within, count, are.count) in
+    let among : k < length (all_candidates files) = omega (arith, within, count) in
     let read = slice_get_read numbers (length numbers) k c.index.result.now refl inside c.index.ensures in
     let place = position_once names k name (once_names (external_symbols files)) c.name_number-number.ensures in
-    are.each k c.index.result.now read ∙ ap (λ (i : ℕ). length (commons_before (all_candidates files) i)) (sym place)
+    sym (read_at numbers k c.index.result.now 0 read) ∙ are.each k among ∙ ap (λ (i : ℕ). length (commons_before (all_candidates files) i)) (sym place)

@@ -13,7 +13,7 @@ own_target-requires-clause-file c =
     let same = ap (λ (r : ResolvedFiles). r.files) (sym c.self.view_is) in
     let placed = definition_placed c.args.self.now.files (name_of (file_at c.args.self.now.files c.args.file) c.args.symbol) c.in-Definition.definition
     (sym c.resolution_at.ensures ∙ c.in-Definition.is) in
-    (subst (λ (f : List (List ℕ)). IsPlaced f c.in-Definition.definition.file c.in-Definition.definition.number) same placed).file_in
+    (subst (λ (f : List (List ℕ)). IsPlaced f c.in-Definition.definition.file c.in-Definition.definition.symbol) same placed).file_in
 
 pub own_target-requires-clause-within : goal.own_target-requires-clause-within
 own_target-requires-clause-within c =
@@ -21,4 +21,4 @@ own_target-requires-clause-within c =
     let same = ap (λ (r : ResolvedFiles). r.files) (sym c.self.view_is) in
     let placed = definition_placed c.args.self.now.files (name_of (file_at c.args.self.now.files c.args.file) c.args.symbol) c.in-Definition.definition
     (sym c.resolution_at.ensures ∙ c.in-Definition.is) in
-    (subst (λ (f : List (List ℕ)). IsPlaced f c.in-Definition.definition.file c.in-Definition.definition.number) same placed).within
+    (subst (λ (f : List (List ℕ)). IsPlaced f c.in-Definition.definition.file c.in-Definition.definition.symbol) same placed).within
