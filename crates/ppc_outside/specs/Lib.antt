@@ -1,4 +1,4 @@
 pub mod Outside
 pub mod Memory
 pub mod System
-pub mod Appending
+pub mod inside

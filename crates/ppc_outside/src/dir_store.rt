@@ -1,18 +1,16 @@
 // Real files. The store tells nothing of what they hold.
-ghost use Rattle.std.specs.Prelude.{◌≡◌, ◌≤◌, None, OnOk, OnErr, IfOk};
-ghost use Rattle.ppc_outside.specs.Appending.{AppendsAtMost};
-ghost use Rattle.ppc_outside.specs.System.{fetch_errors, replace_errors};
+ghost use Rattle.std.specs.Prelude.{◌≡◌, None, OnOk, OnErr};
+ghost use Rattle.ppc_outside.specs.System.{dir_state};
+ghost use Rattle.ppc_outside.specs.inside.Transfer.{AppendsFront};
 
 use crate::outside::{OutsideError, Store};
+use crate::transfer::{read_front, write_whole};
 use std::fs;
 use std::fs::OpenOptions;
-use std::io::{ErrorKind, Read, Write};
+use std::io::ErrorKind;
 use std::os::unix::fs::OpenOptionsExt;
 use std::path::AsPath;
 use std::rt::Files;
-
-/// How many bytes are asked of a file at once.
-const CHUNK: usize = 0x4000;
 
 /// How many names are tried for the new file that is written beside an old one.
 const NAMES: u32 = 100;
@@ -28,50 +26,16 @@ pub struct DirStore<R: Files + AllocGlobal + Drop> {
     write_faults: u64,
 }
 
-// Appends what one read gives, of at most `room` bytes: how many bytes came, which is 0 at the file's end.
-fn read_some<F: Read>(file: &mut F, room: usize, into: &mut Vec<u8>) -> Result<usize, OutsideError>
-    ensures ok { IfOk result (λ count. AppendsAtMost into.old.items into.new.items count) }
-    ensures bound { IfOk result (λ count. count ≤ room) }
-    ensures err { OnErr result (into.new.items ≡ into.old.items) }
-{
-    let mut buffer = [0u8; CHUNK];
-    let asked = room.min(CHUNK);
-    match file.read(&mut buffer[..asked]) {
-        Ok(count) => match into.extend_from_slice(&buffer[..count]) {
-            Ok(()) => Ok(count),
-            Err(_) => Err(OutsideError::Memory),
-        },
-        Err(_) => Err(OutsideError::Failed),
-    }
-}
-
-// Appends a file's first bytes. Each turn takes at least one byte but the last, which finds the end or an error.
-fn read_front<F: Read>(file: &mut F, limit: usize, into: &mut Vec<u8>) -> Result<(), OutsideError>
-    ensures ok { OnOk result (AppendsAtMost into.old.items into.new.items limit) }
-    ensures err { OnErr result (into.new.items ≡ into.old.items) }
-{
-    let start = into.len();
-    let mut taken = 0;
-    for _turn in 0..limit {
-        match read_some(file, limit - taken, into) {
-            Ok(0) => break,
-            Ok(count) => taken += count,
-            Err(error) => {
-                into.truncate(start);
-                return Err(error);
-            }
-        }
-    }
-    Ok(())
-}
-
 // Writes the bytes to a file that is there and is no regular file, such as a device.
 fn write_in_place<R: Files>(rt: &R, name: &str, bytes: &[u8]) -> Result<(), OutsideError> {
     match OpenOptions::new().write(true).open(rt, name) {
-        Ok(mut file) => match file.write_all(bytes) {
-            Ok(()) => Ok(()),
-            Err(_) => Err(OutsideError::Failed),
-        },
+        Ok(mut file) => {
+            if write_whole(&mut file, bytes) {
+                Ok(())
+            } else {
+                Err(OutsideError::Failed)
+            }
+        }
         Err(_) => Err(OutsideError::Failed),
     }
 }
@@ -106,7 +70,7 @@ fn write_beside<R: Files + AllocGlobal>(
     bytes: &[u8],
 ) -> Result<(), OutsideError> {
     let (beside, mut file) = create_beside(rt, name)?;
-    let written = file.write_all(bytes).is_ok();
+    let written = write_whole(&mut file, bytes);
     drop(file);
     if written && fs::rename(rt, beside.as_str(), name).is_ok() {
         return Ok(());
@@ -118,8 +82,8 @@ fn write_beside<R: Files + AllocGlobal>(
 impl<R: Files + AllocGlobal + Drop> DirStore<R> {
     /// The files that the runtime has, with no error so far.
     pub fn new(rt: R) -> DirStore<R>
-        ensures faults { fetch_errors result ≡ 0 }
-        ensures write_faults { replace_errors result ≡ 0 }
+        ensures faults { (dir_state result).faults ≡ 0 }
+        ensures write_faults { (dir_state result).write_faults ≡ 0 }
     {
         DirStore {
             rt,
@@ -129,7 +93,7 @@ impl<R: Files + AllocGlobal + Drop> DirStore<R> {
     }
 
     fn read_file(&self, name: &str, limit: usize, into: &mut Vec<u8>) -> Result<(), OutsideError>
-        ensures ok { OnOk result (AppendsAtMost into.old.items into.new.items limit) }
+        ensures ok { OnOk result (AppendsFront None limit into.old.items into.new.items) }
         ensures err { OnErr result (into.new.items ≡ into.old.items) }
     {
         match OpenOptions::new().read(true).open(&self.rt, name) {
@@ -161,11 +125,7 @@ impl<R: Files + AllocGlobal + Drop> DirStore<R> {
 }
 
 impl<R: Files + AllocGlobal + Drop> Store for DirStore<R> {
-    ghost told = { λ _. None };
-
-    ghost faults = { λ s. fetch_errors s };
-
-    ghost write_faults = { λ s. replace_errors s };
+    ghost state = { λ s. dir_state s };
 
     fn fetch(&mut self, name: &str, limit: usize, into: &mut Vec<u8>) -> Result<(), OutsideError> {
         let result = self.read_file(name, limit, into);

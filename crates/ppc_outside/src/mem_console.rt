@@ -1,7 +1,7 @@
 // A console in memory, which fails at the calls that are marked.
 ghost use Rattle.std.specs.Prelude.{◌≡◌, ◌≢◌, ◌++◌, ◌↔◌, [], ◌∷◌, Some, Err, OnOk, OnErr, Contains, IsTrue};
-ghost use Rattle.ppc_outside.specs.Outside.{Prints, FaultCause};
-ghost use Rattle.ppc_outside.specs.Memory.{text_of, put_marks, put_call, put_faults, IsMarkedPut, next_count};
+ghost use Rattle.ppc_outside.specs.Outside.{Prints};
+ghost use Rattle.ppc_outside.specs.Memory.{text_of, text_state, put_marks, put_call, put_faults, IsMarkedPut, next_count};
 
 use crate::outside::{Console, OutsideError};
 use std::alloc::Global;
@@ -65,13 +65,10 @@ impl MemConsole {
 }
 
 impl Console for MemConsole {
-    ghost told = { λ c. Some (text_of c) };
-
-    ghost faults = { λ c. put_faults c };
+    ghost state = { λ c. text_state c };
 
     fn put(&mut self, bytes: &[u8]) -> Result<(), OutsideError>
-        ensures printed { Prints (Some (text_of self.old)) (Some (text_of self.new)) bytes.now result }
-        ensures cause { FaultCause (put_faults self.old) (put_faults self.new) result }
+        ensures printed { Prints (text_state self.old) (text_state self.new) bytes.now result }
         ensures fails { (result ≡ Err OutsideError.Failed) ↔ IsMarkedPut self.old }
         ensures raised { IsMarkedPut self.old → put_faults self.new ≡ next_count (put_faults self.old) }
         ensures failed_text { IsMarkedPut self.old → text_of self.new ≡ text_of self.old }

@@ -1,8 +1,8 @@
 // Files in memory, which fail at the calls that are marked.
 ghost use Rattle.std.specs.Prelude.{ℕ, ◌≡◌, ◌≢◌, ◌⊎◌, ◌++◌, ◌↔◌, List, [], ◌∷◌, Some, None, Ok, Err, OnOk, OnErr, IfSome, IsTrue, take};
 ghost use Rattle.std.specs.Option.{option_map};
-ghost use Rattle.ppc_outside.specs.Outside.{Fetches, FetchCause, Replaced, FaultCause, OthersStay, AllStay};
-ghost use Rattle.ppc_outside.specs.Memory.{files_in, marks_of, call_of, fetch_faults, replace_faults, IsMarked, next_count};
+ghost use Rattle.ppc_outside.specs.Outside.{AppendsFile, Fetches, Replaces, NowHolds, AllStay};
+ghost use Rattle.ppc_outside.specs.Memory.{mem_state, files_in, KeepsCounts, marks_of, call_of, fetch_faults, replace_faults, IsMarked, next_count};
 
 use crate::outside::{OutsideError, Store};
 use std::alloc::Global;
@@ -53,14 +53,11 @@ impl MemStore {
 
     /// Makes a name hold these bytes, also where the name is there. The only error is want of memory.
     pub fn add(&mut self, name: &str, bytes: &[u8]) -> Result<(), OutsideError>
-        ensures ok { OnOk result (files_in self.new name.now ≡ Some bytes.now) }
-        ensures others { OnOk result (OthersStay (files_in self.old) (files_in self.new) name.now) }
+        ensures ok { OnOk result
+            (NowHolds (files_in self.old) (files_in self.new) name.now bytes.now) }
         ensures err { OnErr result (AllStay (files_in self.old) (files_in self.new)) }
         ensures memory { result ≢ Err OutsideError.Failed }
-        ensures marks { marks_of self.new ≡ marks_of self.old }
-        ensures calls { call_of self.new ≡ call_of self.old }
-        ensures faults { fetch_faults self.new ≡ fetch_faults self.old }
-        ensures write_faults { replace_faults self.new ≡ replace_faults self.old }
+        ensures counts { KeepsCounts self.old self.new }
     {
         let Ok(copy) = Vec::from_slice(self.alloc, bytes) else {
             return Err(OutsideError::Memory);
@@ -112,20 +109,18 @@ impl MemStore {
 }
 
 impl Store for MemStore {
-    ghost told = { λ s. Some (files_in s) };
-
-    ghost faults = { λ s. fetch_faults s };
-
-    ghost write_faults = { λ s. replace_faults s };
+    ghost state = { λ s. mem_state s };
 
     fn fetch(&mut self, name: &str, limit: usize, into: &mut Vec<u8>) -> Result<(), OutsideError>
-        ensures fetched { Fetches (Some (files_in self.old)) name.now limit into.old.items into.new.items result }
-        ensures told { Some (files_in self.new) ≡ Some (files_in self.old) }
-        ensures cause { FetchCause (Some (files_in self.old)) name.now (fetch_faults self.old) (fetch_faults self.new) result }
-        ensures other { replace_faults self.new ≡ replace_faults self.old }
-        ensures fails { (result ≡ Err OutsideError.Failed) ↔ (IsMarked self.old ⊎ (files_in self.old name.now ≡ None)) }
-        ensures raised { IsMarked self.old → fetch_faults self.new ≡ next_count (fetch_faults self.old) }
-        ensures absent { (IsMarked self.old → ⊥) → fetch_faults self.new ≡ fetch_faults self.old }
+        ensures ok { OnOk result (AppendsFile (Some (files_in self.old)) name.now limit
+            into.old.items into.new.items) }
+        ensures err { OnErr result (into.new.items ≡ into.old.items) }
+        ensures store { Fetches (mem_state self.old) (mem_state self.new) name.now result }
+        ensures fails { (result ≡ Err OutsideError.Failed)
+            ↔ (IsMarked self.old ⊎ (files_in self.old name.now ≡ None)) }
+        ensures raised { IsMarked self.old →
+            fetch_faults self.new ≡ next_count (fetch_faults self.old) }
+        ensures absent { ¬ IsMarked self.old → fetch_faults self.new ≡ fetch_faults self.old }
         ensures marks { marks_of self.new ≡ marks_of self.old }
         ensures calls { call_of self.new ≡ next_count (call_of self.old) }
     {
@@ -140,11 +135,10 @@ impl Store for MemStore {
     }
 
     fn replace(&mut self, name: &str, bytes: &[u8]) -> Result<(), OutsideError>
-        ensures replaced { Replaced (Some (files_in self.old)) (Some (files_in self.new)) name.now bytes.now result }
-        ensures cause { FaultCause (replace_faults self.old) (replace_faults self.new) result }
-        ensures other { fetch_faults self.new ≡ fetch_faults self.old }
+        ensures store { Replaces (mem_state self.old) (mem_state self.new) name.now bytes.now result }
         ensures fails { (result ≡ Err OutsideError.Failed) ↔ IsMarked self.old }
-        ensures raised { IsMarked self.old → replace_faults self.new ≡ next_count (replace_faults self.old) }
+        ensures raised { IsMarked self.old →
+            replace_faults self.new ≡ next_count (replace_faults self.old) }
         ensures failed { IsMarked self.old → AllStay (files_in self.old) (files_in self.new) }
         ensures marks { marks_of self.new ≡ marks_of self.old }
         ensures calls { call_of self.new ≡ next_count (call_of self.old) }

@@ -1,6 +1,6 @@
 // What is outside: files by name, and a console.
-ghost use Rattle.std.specs.Prelude.{◌≡◌, ℕ, List, Option};
-ghost use Rattle.ppc_outside.specs.Outside.{Files, Fetches, Replaced, FetchCause, FaultCause, Prints};
+ghost use Rattle.std.specs.Prelude.{◌≡◌, OnOk, OnErr};
+ghost use Rattle.ppc_outside.specs.Outside.{StoreState, ConsoleState, AppendsFile, Fetches, Replaces, Prints};
 
 use std::alloc::{AllocError, AllocFailed};
 
@@ -37,39 +37,28 @@ impl<T: Drop> From<AllocFailed<T>> for OutsideError {
 
 /// Files by name.
 pub trait Store {
-    /// What each name holds, where the store tells it.
-    ghost told: { Self → Option Files };
-
-    /// How many fetches have failed for a reason of the store's; it never falls.
-    ghost faults: { Self → ℕ };
-
-    /// How many replaces have failed; it never falls.
-    ghost write_faults: { Self → ℕ };
+    /// What the store tells of its files, where it does, and two counts that never fall: of the fetches that failed for a reason of the
+    /// store's, and of the replaces that failed.
+    ghost state: { Self → StoreState };
 
     /// Appends the first `limit` bytes of the file, or all of it where it is shorter.
     fn fetch(&mut self, name: &str, limit: usize, into: &mut Vec<u8>) -> Result<(), OutsideError>
-        ensures fetched { Fetches (told self.old) name.now limit into.old.items into.new.items result }
-        ensures told { told self.new ≡ told self.old }
-        ensures cause { FetchCause (told self.old) name.now (faults self.old) (faults self.new) result }
-        ensures other { write_faults self.new ≡ write_faults self.old };
+        ensures ok { OnOk result
+            (AppendsFile (state self.old).told name.now limit into.old.items into.new.items) }
+        ensures err { OnErr result (into.new.items ≡ into.old.items) }
+        ensures store { Fetches (state self.old) (state self.new) name.now result };
 
     /// Makes the name hold these bytes, and no others.
     fn replace(&mut self, name: &str, bytes: &[u8]) -> Result<(), OutsideError>
-        ensures replaced { Replaced (told self.old) (told self.new) name.now bytes.now result }
-        ensures cause { FaultCause (write_faults self.old) (write_faults self.new) result }
-        ensures other { faults self.new ≡ faults self.old };
+        ensures { Replaces (state self.old) (state self.new) name.now bytes.now result };
 }
 
 /// Where text is printed.
 pub trait Console {
-    /// What was printed, where the console tells it.
-    ghost told: { Self → Option (List ℕ) };
-
-    /// How many puts have failed; it never falls.
-    ghost faults: { Self → ℕ };
+    /// What was printed, where the console tells it, and a count that never falls: of the puts that failed.
+    ghost state: { Self → ConsoleState };
 
     /// Prints the bytes after all that was printed.
     fn put(&mut self, bytes: &[u8]) -> Result<(), OutsideError>
-        ensures printed { Prints (told self.old) (told self.new) bytes.now result }
-        ensures cause { FaultCause (faults self.old) (faults self.new) result };
+        ensures { Prints (state self.old) (state self.new) bytes.now result };
 }

@@ -1,8 +1,11 @@
-// The store and the console in memory, and those of the system, each used once.
+// The store and the console in memory and those of the system, each used once; readers and writers that take little at a time.
+use crate::transfer::{read_front, write_whole};
 use crate::{Console, DirStore, MemConsole, MemStore, OutsideError, StdConsole, Store};
-use std::fs;
+use std::alloc::{AllocError, Global};
+use std::io::{ErrorKind, Read, Write};
 use std::os::unix::fs::{MetadataExt, symlink};
 use std::test::Fail;
+use std::{fs, io};
 
 #[test]
 fn a_store_in_memory_fails_where_it_is_marked(rt: HostRuntime) -> Result<(), Fail> {
@@ -87,4 +90,120 @@ fn standard_output_takes_bytes(rt: HostRuntime) {
     let mut console = StdConsole::new(rt);
     assert_eq!(rt; console.put(b"printed\n"), Ok(()));
     assert_eq!(rt; console.put(b""), Ok(()));
+}
+
+// So many bytes, of which no two that stand within 250 of each other are the same.
+fn pattern(alloc: Global, count: u32) -> Result<Vec<u8>, AllocError> {
+    let mut bytes = Vec::new(alloc);
+    for i in 0..count {
+        bytes.push((i % 251) as u8)?;
+    }
+    Ok(bytes)
+}
+
+/// A reader that gives at most `most` bytes at a time, and after the last of them ends or fails.
+#[derive(Drop)]
+struct Trickle<'a> {
+    rest: &'a [u8],
+    most: usize,
+    fails: bool,
+}
+
+impl Read for Trickle<'_> {
+    fn read(&mut self, buf: &mut [u8]) -> io::Result<usize> {
+        if self.rest.is_empty() && self.fails {
+            return Err(io::Error::from(ErrorKind::Other));
+        }
+        let count = self.most.min(buf.len()).min(self.rest.len());
+        buf[..count].copy_from_slice(&self.rest[..count]);
+        self.rest = &self.rest[count..];
+        Ok(count)
+    }
+}
+
+#[test]
+fn a_reader_is_read_to_its_end_or_to_the_limit(rt: HostRuntime) -> Result<(), Fail> {
+    let bytes = pattern(rt.alloc(), 0x9001)?;
+    // at most so many bytes a read, the limit, whether the reader fails at its end, and how many bytes come, if they do
+    let rows: [(usize, usize, bool, Option<usize>); 7] = [
+        (1, 0x9001, true, Some(0x9001)),
+        (7, 0x1_0000, false, Some(0x9001)),
+        (0x5000, 0x5003, true, Some(0x5003)),
+        (0x1_0000, 0x9002, false, Some(0x9001)),
+        (0x1_0000, 0, true, Some(0)),
+        (7, 0x9002, true, None),
+        (0x1_0000, 0x9002, true, None),
+    ];
+    for (most, limit, fails, wanted) in rows {
+        let mut reader = Trickle {
+            rest: &bytes,
+            most,
+            fails,
+        };
+        let mut into = b"<".to_vec(rt.alloc())?;
+        let read = read_front(&mut reader, limit, &mut into);
+        assert_eq!(rt; read.is_ok(), wanted.is_some());
+        assert_eq!(rt; into.get(1..), bytes.get(..wanted.unwrap_or(0)));
+    }
+    Ok(())
+}
+
+/// A writer that takes at most `most` bytes at a time, and `room` in all.
+#[derive(Drop)]
+struct Narrow {
+    taken: Vec<u8>,
+    most: usize,
+    room: usize,
+}
+
+impl Write for Narrow {
+    fn write(&mut self, buf: &[u8]) -> io::Result<usize> {
+        let count = self.most.min(self.room).min(buf.len());
+        if self.taken.extend_from_slice(&buf[..count]).is_err() {
+            return Err(io::Error::from(ErrorKind::OutOfMemory));
+        }
+        self.room -= count;
+        Ok(count)
+    }
+
+    fn flush(&mut self) -> io::Result<()> {
+        Ok(())
+    }
+}
+
+#[test]
+fn all_bytes_are_written_or_the_writer_took_none(rt: HostRuntime) -> Result<(), Fail> {
+    let bytes = pattern(rt.alloc(), 300)?;
+    // at most so many bytes a write, the room, and how many bytes are taken
+    let rows: [(usize, usize, usize); 5] = [
+        (7, 1000, 300),
+        (1, 300, 300),
+        (1000, 300, 300),
+        (7, 299, 299),
+        (0, 1000, 0),
+    ];
+    for (most, room, taken) in rows {
+        let mut writer = Narrow {
+            taken: Vec::new(rt.alloc()),
+            most,
+            room,
+        };
+        assert_eq!(rt; write_whole(&mut writer, &bytes), taken == 300);
+        assert_eq!(rt; Some(writer.taken.as_slice()), bytes.get(..taken));
+    }
+    Ok(())
+}
+
+#[test]
+fn a_long_file_is_read_up_to_the_limit(rt: HostRuntime) -> Result<(), Fail> {
+    let bytes = pattern(rt.alloc(), 0x9001)?;
+    let mut store = DirStore::new(rt);
+    assert_eq!(rt; store.replace("long.out", &bytes), Ok(()));
+    for limit in [0x5003, 0x9001, 0x9002] {
+        let mut into = Vec::new(rt.alloc());
+        assert_eq!(rt; store.fetch("long.out", limit, &mut into), Ok(()));
+        assert_eq!(rt; Some(into.as_slice()), bytes.get(..limit.min(0x9001)));
+    }
+    fs::remove_file(&rt, "long.out")?;
+    Ok(())
 }

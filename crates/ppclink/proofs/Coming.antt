@@ -5,12 +5,13 @@ use Rattle.std.proofs.lemmas.Bool.{cases_lt}
 use Rattle.std.proofs.lemmas.List.{length-take-le}
 use Rattle.ppc_outside.specs.Outside.{Files, Holds}
 use Rattle.ppclink.specs.Requests.{Request, names_of}
-use Rattle.ppclink.specs.Printed.{Outcome}
-use Rattle.ppclink.specs.Outcomes.{ComesTo, SettledBy, first_missing, or_missing, contents_in}
-use Rattle.ppclink.specs.Causes.{Comes}
+use Rattle.ppclink.specs.Runs.{Response}
+use Rattle.ppclink.specs.Responses.{Responds, RespondsBut, first_missing, or_missing, contents_in, MayRespond}
 
 -- the first bytes of a file, one past the limit, are the file, or both are too long
-pub cut : (limit : ℕ) (bytes whole : List ℕ) → bytes ≡ take (limit + 1) whole → ((limit < length bytes) × (limit < length whole)) ⊎ (bytes ≡ whole)
+pub cut : (limit : ℕ) (bytes whole : List ℕ) →
+    bytes ≡ take (limit + 1) whole →
+    ((limit < length bytes) × (limit < length whole)) ⊎ (bytes ≡ whole)
 cut limit bytes whole is =
     elim (cases_lt limit (length whole)) [
       | inl long ↦
@@ -26,20 +27,29 @@ AreFiles told [] (whole ∷ wholes) = ⊥
 AreFiles told (name ∷ names) [] = ⊥
 AreFiles told (name ∷ names) (whole ∷ wholes) = Holds told name whole × AreFiles told names wholes
 
--- then none is missing, and their contents are these
-held : (files : Files) (names wholes : List (List ℕ)) → AreFiles (Some files) names wholes → (first_missing files names ≡ None) × (contents_in files names ≡ wholes)
-held files [] [] are = (refl, refl)
-held files [] (whole ∷ wholes) are = absurd are
-held files (name ∷ names) [] are = absurd are
-held files (name ∷ names) (whole ∷ wholes) are =
-    let rest = held files names wholes are.1 in (
-      ap (λ o. or_missing o name (first_missing files names)) are.0 ∙ rest.0,
-      ap (λ o. unwrap_or o [] ∷ contents_in files names) are.0 ∙ ap (λ l. whole ∷ l) rest.1,
-    )
+-- then none is missing
+held_none : (files : Files) (names wholes : List (List ℕ)) → AreFiles (Some files) names wholes → first_missing files names ≡ None
+held_none files [] [] are = refl
+held_none files [] (whole ∷ wholes) are = absurd are
+held_none files (name ∷ names) [] are = absurd are
+held_none files (name ∷ names) (whole ∷ wholes) (here, rest) =
+    ap (λ o. or_missing o name (first_missing files names)) here ∙ held_none files names wholes rest
+
+-- and their contents are these
+held_contents : (files : Files) (names wholes : List (List ℕ)) → AreFiles (Some files) names wholes → contents_in files names ≡ wholes
+held_contents files [] [] are = refl
+held_contents files [] (whole ∷ wholes) are = absurd are
+held_contents files (name ∷ names) [] are = absurd are
+held_contents files (name ∷ names) (whole ∷ wholes) (here, rest) =
+    ap (λ o. unwrap_or o [] ∷ contents_in files names) here ∙ ap (λ l. whole ∷ l) (held_contents files names wholes rest)
 
 -- a request comes over the files to what it comes to for their contents
-pub comes_held : (told : Option Files) (request : Request) (wholes : List (List ℕ)) (outcome : Outcome) → AreFiles told (names_of request) wholes → ComesTo request wholes outcome → Comes told request outcome
-comes_held None request wholes outcome are comes = (wholes, comes)
-comes_held (Some files) request wholes outcome are comes =
-    let here = held files (names_of request) wholes are in
-    subst (λ m. SettledBy m request (contents_in files (names_of request)) outcome) (sym here.0) (subst (λ c. ComesTo request c outcome) (sym here.1) comes)
+pub comes_held : (told : Option Files) (request : Request) (wholes : List (List ℕ)) (response : Response) →
+    AreFiles told (names_of request) wholes →
+    Responds request wholes response →
+    MayRespond told request response
+comes_held None request wholes response are responds = (wholes, responds)
+comes_held (Some files) request wholes response are responds =
+    subst (λ m. RespondsBut m request (contents_in files (names_of request)) response)
+    (sym (held_none files (names_of request) wholes are))
+    (subst (λ c. Responds request c response) (sym (held_contents files (names_of request) wholes are)) responds)

@@ -1,53 +1,81 @@
--- A request comes to one thing.
-use Rattle.std.proofs.Common.{◌≡◌, ℕ, inl, inr, List, [], ◌∷◌, Option, Some, None, sym, ap, ◌∙◌, subst}
+-- A request comes to one thing: a law for each command, and one for all.
+use Rattle.std.proofs.Common.{◌≡◌, ℕ, inl, inr, List, [], ◌∷◌, Option, Some, None, sym, ap, ◌∙◌}
 use Rattle.elf64_exec.specs.laws.Faults.{no_fault, one_fault}
-use Rattle.power_machine.specs.Start.{start_ranges}
-use Rattle.power_machine.specs.Steps.{ReachesIn as Reaches}
-use Rattle.power_machine.specs.laws.Steps.{one_progress_in as one_progress}
+use Rattle.power_machine.specs.laws.Steps.{one_run}
 use Rattle.ppc_outside.specs.Outside.{Files}
+use Rattle.link_engine.specs.Options.{LinkOptions}
+use Rattle.link_engine.specs.laws.Outcomes.{links_are_one}
 use Rattle.ppclink.specs.Requests.{Request, link_to, show_file, run_image, names_of}
-use Rattle.ppclink.specs.Printed.{Outcome, printed}
-use Rattle.ppclink.specs.Runs.{RunsTo, IsNoProgram, Executes, exec_line, long_line, start_run, progress_outcome}
-use Rattle.ppclink.specs.Outcomes.{RunComes, ComesTo, SettledBy, ComesIn, first_missing, contents_in}
+use Rattle.ppclink.specs.Runs.{Response, printed, IsProgram, IsNoProgram, Executes, exec_line, long_line, progress_response}
+use Rattle.ppclink.specs.Responses.{LinkResponds, link_response, ShowResponds, RunResponds, Responds, RespondsBut, RespondsOver, first_missing, contents_in}
 
--- a file loads as one entry and one list of segments, and runs to one end
-one_run : (file input : List ℕ) (budget : ℕ) (o o' : Outcome) → RunsTo file input budget o → RunsTo file input budget o' → o ≡ o'
-one_run file input budget o o' a b =
-    let entries : a.entry ≡ b.entry = a.loads.entry_is ∙ sym b.loads.entry_is in
-    let lists : a.segments ≡ b.segments = a.loads.segments_are ∙ sym b.loads.segments_are in
-    let here : Reaches (start_ranges b.segments) budget (start_run b.entry b.segments input) a.progress =
-    subst (λ l. Reaches (start_ranges l) budget (start_run b.entry l input) a.progress) lists (subst (λ e. Reaches (start_ranges a.segments) budget (start_run e a.segments input) a.progress) entries a.reaches) in
-    sym a.is ∙ ap progress_outcome (one_progress (start_ranges b.segments) budget (start_run b.entry b.segments input) a.progress b.progress here b.reaches) ∙ b.is
+-- a program has one run
+one_program : (file input : List ℕ) (budget : ℕ) (r r' : Response) → IsProgram file input budget r → IsProgram file input budget r' → r ≡ r'
+one_program file input budget r r' a b =
+    sym a.is ∙ ap progress_response (one_run file input [] budget a.progress b.progress a.runs b.runs) ∙ b.is
 
-one_refusal : (name file : List ℕ) (o o' : Outcome) → IsNoProgram name file o → IsNoProgram name file o' → o ≡ o'
-one_refusal name file o o' a b = sym a.is ∙ ap (λ f. printed 1 (exec_line name f)) (one_fault file a.fault b.fault a.has b.has a.real b.real) ∙ b.is
+-- a file that is no program has one fault
+one_fault_line : (name file : List ℕ) (r r' : Response) → IsNoProgram name file r → IsNoProgram name file r' → r ≡ r'
+one_fault_line name file r r' a b =
+    sym a.is ∙ ap (λ f. printed 1 (exec_line name f)) (one_fault file a.fault b.fault a.has b.has a.real b.real) ∙ b.is
 
-executes_once : (name file input : List ℕ) (budget : ℕ) (long : Option (List ℕ)) (o o' : Outcome) → Executes name file input budget long o → Executes name file input budget long o' → o ≡ o'
-executes_once name file input budget (Some text) o o' h k = sym h ∙ k
-executes_once name file input budget None o o' (inl a) (inl b) = one_refusal name file o o' a b
-executes_once name file input budget None o o' (inl a) (inr b) = absurd (a.real (no_fault file b.entry b.segments a.fault b.loads a.has))
-executes_once name file input budget None o o' (inr a) (inl b) = absurd (b.real (no_fault file a.entry a.segments b.fault a.loads b.has))
-executes_once name file input budget None o o' (inr a) (inr b) = one_run file input budget o o' a b
+executes_once : (name file input : List ℕ) (budget : ℕ) (long : Option (List ℕ)) (r r' : Response) →
+    Executes name file input budget long r →
+    Executes name file input budget long r' →
+    r ≡ r'
+executes_once name file input budget (Some text) r r' h k = sym h ∙ k
+executes_once name file input budget None r r' (inl a) (inl b) = one_fault_line name file r r' a b
+executes_once name file input budget None r r' (inl a) (inr b) = absurd (a.real (no_fault file b.runs.entry b.runs.segments a.fault b.runs.loads a.has))
+executes_once name file input budget None r r' (inr a) (inl b) = absurd (b.real (no_fault file a.runs.entry a.runs.segments b.fault a.runs.loads b.has))
+executes_once name file input budget None r r' (inr a) (inr b) = one_program file input budget r r' a b
 
-run_once : (image : List ℕ) (input : Option (List ℕ)) (budget : ℕ) (contents : List (List ℕ)) (o o' : Outcome) → RunComes image input budget contents o → RunComes image input budget contents o' → o ≡ o'
-run_once image None budget [] o o' h k = absurd h
-run_once image None budget (file ∷ []) o o' h k = executes_once image file [] budget (long_line image None file []) o o' h k
-run_once image None budget (file ∷ more ∷ rest) o o' h k = absurd h
-run_once image (Some input) budget [] o o' h k = absurd h
-run_once image (Some input) budget (file ∷ []) o o' h k = absurd h
-run_once image (Some input) budget (file ∷ given ∷ []) o o' h k = executes_once image file given budget (long_line image (Some input) file given) o o' h k
-run_once image (Some input) budget (file ∷ given ∷ more ∷ rest) o o' h k = absurd h
+run_once : (budget : ℕ) (image : List ℕ) (input : Option (List ℕ)) (contents : List (List ℕ)) (r r' : Response) →
+    RunResponds budget image input contents r →
+    RunResponds budget image input contents r' →
+    r ≡ r'
+run_once budget image None [] r r' h k = absurd h
+run_once budget image None (file ∷ []) r r' h k = executes_once image file [] budget (long_line image None file []) r r' h k
+run_once budget image None (file ∷ more ∷ rest) r r' h k = absurd h
+run_once budget image (Some input) [] r r' h k = absurd h
+run_once budget image (Some input) (file ∷ []) r r' h k = absurd h
+run_once budget image (Some input) (file ∷ given ∷ []) r r' h k =
+    executes_once image file given budget (long_line image (Some input) file given) r r' h k
+run_once budget image (Some input) (file ∷ given ∷ more ∷ rest) r r' h k = absurd h
 
-comes_once : (request : Request) (contents : List (List ℕ)) (o o' : Outcome) → ComesTo request contents o → ComesTo request contents o' → o ≡ o'
-comes_once (link_to out entry files) contents o o' h k = sym h ∙ k
-comes_once (show_file files) [] o o' h k = absurd h
-comes_once (show_file files) (b ∷ contents) o o' h k = sym h ∙ k
-comes_once (run_image image input budget) contents o o' h k = run_once image input budget contents o o' h k
+show_once : (name : List ℕ) (contents : List (List ℕ)) (r r' : Response) →
+    ShowResponds name contents r →
+    ShowResponds name contents r' →
+    r ≡ r'
+show_once name [] r r' h k = absurd h
+show_once name (b ∷ []) r r' h k = sym h ∙ k
+show_once name (b ∷ more ∷ rest) r r' h k = absurd h
 
-settled_once : (missing : Option (List ℕ)) (request : Request) (contents : List (List ℕ)) (o o' : Outcome) → SettledBy missing request contents o → SettledBy missing request contents o' → o ≡ o'
-settled_once (Some name) request contents o o' h k = sym h ∙ k
-settled_once None request contents o o' h k = comes_once request contents o o' h k
+link_once : (out : List ℕ) (options : LinkOptions) (names contents : List (List ℕ)) (r r' : Response) →
+    LinkResponds out options names contents r →
+    LinkResponds out options names contents r' →
+    r ≡ r'
+link_once out options names contents r r' h k =
+    sym h.is ∙ ap (link_response out names) (links_are_one contents options h.outcome k.outcome h.links k.links) ∙ k.is
+
+responds_once : (request : Request) (contents : List (List ℕ)) (r r' : Response) →
+    Responds request contents r →
+    Responds request contents r' →
+    r ≡ r'
+responds_once (link_to out options names) contents r r' h k = link_once out options names contents r r' h k
+responds_once (show_file name) contents r r' h k = show_once name contents r r' h k
+responds_once (run_image options image) contents r r' h k = run_once options.budget image options.input contents r r' h k
+
+but_once : (missing : Option (List ℕ)) (request : Request) (contents : List (List ℕ)) (r r' : Response) →
+    RespondsBut missing request contents r →
+    RespondsBut missing request contents r' →
+    r ≡ r'
+but_once (Some name) request contents r r' h k = sym h ∙ k
+but_once None request contents r r' h k = responds_once request contents r r' h k
 
 -- over these files
-pub one_outcome : (files : Files) (request : Request) (o o' : Outcome) → ComesIn files request o → ComesIn files request o' → o ≡ o'
-one_outcome files request o o' h k = settled_once (first_missing files (names_of request)) request (contents_in files (names_of request)) o o' h k
+pub one_response : (files : Files) (request : Request) (r r' : Response) →
+    RespondsOver files request r →
+    RespondsOver files request r' →
+    r ≡ r'
+one_response files request r r' h k =
+    but_once (first_missing files (names_of request)) request (contents_in files (names_of request)) r r' h k

@@ -1,12 +1,12 @@
 pub mod Numerals
 pub mod Coming
 pub mod Reading
+pub mod Reporting
 pub mod Linking
 pub mod Deciding
-pub mod Endings
 pub mod Showing
 pub mod Shown
+pub mod Files
 pub mod Reported
 pub mod Executing
-pub mod Files
-pub mod OneFile
+pub mod Endings

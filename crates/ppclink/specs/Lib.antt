@@ -1,10 +1,8 @@
 pub mod Numbers
 pub mod Requests
 pub mod Lines
-pub mod Printed
-pub mod Runs
-pub mod Outcomes
-pub mod Fetching
-pub mod Causes
-pub mod Statuses
 pub mod Show
+pub mod Runs
+pub mod Responses
+pub mod Statuses
+pub mod inside

@@ -1,18 +1,21 @@
 -- What the words of a command ask for.
-use Rattle.std.specs.Prelude.{ℕ, ◌≡◌, ◌≤◌, Bool, nat_le, false, ◌==◌, ◌&&◌, not, List, [], ◌∷◌, map, length, codes, Option, Some, None, if◌then◌else◌, String, string_bytes}
+use Rattle.std.specs.Prelude.{ℕ, Bool, nat_le, false, ◌==◌, ◌&&◌, not, List, [], ◌∷◌, map, length, codes, Option, Some, None, if◌then◌else◌, String, string_bytes, Vec}
 use Rattle.std.specs.List.{list_all}
-use Rattle.std.specs.Option.{option_map}
 use Rattle.std.specs.Str.{bytes_eq}
 use Rattle.std.specs.declared.alloc.Global.{Global}
-use Rattle.ppclink.specs.declared.words.Command.{Command}
-use Rattle.ppclink.specs.declared.words.Command.TheVariants.{Link, Show, Run}
+use Rattle.link_engine.specs.Options.{LinkOptions}
 use Rattle.ppclink.specs.Numbers.{number_of}
+
+-- the options of a run: the file of its input, if there is one, and how many steps it may take
+pub record RunOptions : Type 0 where
+  pub input : Option (List ℕ)
+  pub budget : ℕ
 
 -- what is asked for; names are their bytes
 pub data Request : Type 0 where
-  link_to : (out entry : List ℕ) (files : List (List ℕ)) → Request
-  show_file : (files : List (List ℕ)) → Request
-  run_image : (image : List ℕ) (input : Option (List ℕ)) (budget : ℕ) → Request
+  link_to : (out : List ℕ) (options : LinkOptions) (files : List (List ℕ)) → Request
+  show_file : (file : List ℕ) → Request
+  run_image : (options : RunOptions) (image : List ℕ) → Request
 
 -- the words as their bytes
 abbrev pub texts : List (String Global) → List (List ℕ)
@@ -31,17 +34,28 @@ usual_entry = codes "_start"
 abbrev pub are_files : List (List ℕ) → Bool
 are_files files = nat_le 1 (length files) && nat_le (length files) 4096 && list_all is_file_name files
 
-abbrev pub link_from : List ℕ → List ℕ → List (List ℕ) → Option Request
-link_from out entry files = if are_files files then Some (link_to out entry files) else None
+-- the options of a link that names no spans
+abbrev pub usual_options : List ℕ → LinkOptions
+usual_options entry = record { entry = entry; branch_span = 0x2000000; toc_span = 0x10000 }
 
+-- the files of a link, behind its options
+abbrev pub link_from : List ℕ → LinkOptions → List (List ℕ) → Option Request
+link_from out options files = if are_files files then Some (link_to out options files) else None
+
+-- an entry that was named; the name isn't empty
 abbrev pub link_named : List ℕ → List ℕ → List (List ℕ) → Option Request
 link_named out [] files = None
-link_named out (c ∷ entry) files = link_from out (c ∷ entry) files
+link_named out (c ∷ entry) files = link_from out (usual_options (c ∷ entry)) files
 
+-- the usual entry
+abbrev pub link_usual : List ℕ → List (List ℕ) → Option Request
+link_usual out files = link_from out (usual_options usual_entry) files
+
+-- [-e NAME] FILE...
 abbrev pub link_with_entry : List ℕ → List (List ℕ) → Option Request
 link_with_entry out (option ∷ entry ∷ files) =
-    if bytes_eq option (codes "-e") then link_named out entry files else link_from out usual_entry (option ∷ entry ∷ files)
-link_with_entry out files = link_from out usual_entry files
+    if bytes_eq option (codes "-e") then link_named out entry files else link_usual out (option ∷ entry ∷ files)
+link_with_entry out files = link_usual out files
 
 -- link -o OUT [-e NAME] FILE...
 abbrev pub link_request : List (List ℕ) → Option Request
@@ -50,17 +64,19 @@ link_request words = None
 
 -- show FILE
 abbrev pub show_request : List (List ℕ) → Option Request
-show_request (file ∷ []) = if is_file_name file then Some (show_file (file ∷ [])) else None
+show_request (file ∷ []) = if is_file_name file then Some (show_file file) else None
 show_request words = None
 
 -- how many steps a run takes at most where the words don't say
 abbrev pub usual_budget : ℕ
 usual_budget = 1000000
 
+-- the executable of a run, behind its options; None stands for a number that isn't allowed
 unfoldable pub run_from : Option ℕ → Option (List ℕ) → List (List ℕ) → Option Request
-run_from (Some budget) input (image ∷ []) = if is_file_name image then Some (run_image image input budget) else None
+run_from (Some budget) input (image ∷ []) = if is_file_name image then Some (run_image (record { input = input; budget = budget }) image) else None
 run_from budget input words = None
 
+-- [-i INPUT] IMAGE
 unfoldable pub run_with_input : Option ℕ → List (List ℕ) → Option Request
 run_with_input budget (option ∷ input ∷ words) =
     if bytes_eq option (codes "-i") then (if is_file_name input then run_from budget (Some input) words else None)
@@ -83,33 +99,29 @@ request_of (command ∷ words) =
     else if bytes_eq command (codes "run") then run_request words
     else None
 
+-- what the words of the command ask for, if they are of the grammar
+abbrev pub asked : Vec (String Global) Global → Option Request
+asked words = request_of (texts words.items)
+
+-- the files that a run fetches: the executable first, then its input
+abbrev pub run_names : List ℕ → Option (List ℕ) → List (List ℕ)
+run_names image None = image ∷ []
+run_names image (Some input) = image ∷ input ∷ []
+
 -- the files that a request fetches, in this order
 abbrev pub names_of : Request → List (List ℕ)
-names_of (link_to out entry files) = files
-names_of (show_file files) = files
-names_of (run_image image (Some input) budget) = image ∷ input ∷ []
-names_of (run_image image None budget) = image ∷ []
+names_of (link_to out options files) = files
+names_of (show_file file) = file ∷ []
+names_of (run_image options image) = run_names image options.input
 
--- the file that a request writes
-abbrev pub out_of : Request → List ℕ
-out_of (link_to out entry files) = out
-out_of (show_file files) = []
-out_of (run_image image input budget) = []
+-- the files that the words name
+abbrev pub names_asked : Option Request → List (List ℕ)
+names_asked None = []
+names_asked (Some request) = names_of request
 
--- the request writes a file
-abbrev pub IsLink : Request → Type 0
-IsLink (link_to out entry files) = Unit {0}
-IsLink (show_file files) = ⊥
-IsLink (run_image image input budget) = ⊥
-
--- what a command that was read asks for
-abbrev pub meaning : Command → Request
-meaning (Link out entry files) = link_to out.now entry.now (texts files.now)
-meaning (Show files) = show_file (texts files.now)
-meaning (Run image input budget) = run_image image.now (option_map (λ i. i.now) input) budget
-
--- a link has 1 to 4096 files, and what is shown is one
-abbrev pub HasFiles : Command → Type 0
-HasFiles (Link out entry files) = (1 ≤ length files.now) × (length files.now ≤ 4096)
-HasFiles (Show files) = length files.now ≡ 1
-HasFiles (Run image input budget) = Unit {0}
+-- the file that is to be written: that of a link alone
+abbrev pub out_of : Option Request → Option (List ℕ)
+out_of (Some (link_to out options files)) = Some out
+out_of (Some (show_file file)) = None
+out_of (Some (run_image options image)) = None
+out_of None = None

@@ -2,21 +2,22 @@
 use Rattle.std.specs.Prelude.{ℕ, ◌≡◌, ◌≢◌, ◌⊎◌, ◌==◌, false, List, [], ◌∷◌, ◌++◌, length, codes, decimal, nat_lt, Option, Some, None, if◌then◌else◌}
 use Rattle.std.specs.Fmt.{digits}
 use Rattle.hex.specs.Hex.{encode_lower}
-use Rattle.elf64_exec.specs.declared.layout.Segment.{Segment}
 use Rattle.elf64_exec.specs.declared.layout.ExecFault.{ExecFault}
 use Rattle.elf64_exec.specs.declared.layout.ExecFault.TheVariants.{NotElf, NotExec, BadSegment, Memory}
-use Rattle.elf64_exec.specs.Loading.{HasFault, Loads}
+use Rattle.elf64_exec.specs.Loading.{HasFault}
 use Rattle.power_machine.specs.declared.reason.Reason.{Reason}
 use Rattle.power_machine.specs.declared.reason.Reason.TheVariants as why
 use Rattle.power_machine.specs.declared.world.Event.{Event}
-use Rattle.power_machine.specs.declared.machine.Outcome.{Outcome as Ending}
-use Rattle.power_machine.specs.declared.machine.Outcome.TheVariants as ending
-use Rattle.power_machine.specs.Start.{start_ranges, start_run as start_in}
+use Rattle.power_machine.specs.Start.{RunsTo}
 use Rattle.power_machine.specs.Runs.{Going, Done, Gone}
-use Rattle.power_machine.specs.Steps.{NumberRun as Run, NumberProgress as Progress, ReachesIn as Reaches}
+use Rattle.power_machine.specs.Steps.{NumberProgress}
 use Rattle.elf64_records.specs.First.{◌orelse◌}
 use Rattle.ppclink.specs.Lines.{about}
-use Rattle.ppclink.specs.Printed.{Outcome, printed}
+
+-- what a request comes to: a text that is printed with a status, or a file that is written
+pub data Response : Type 0 where
+  printed : (status : ℕ) (text : List ℕ) → Response
+  written : (out image : List ℕ) → Response
 
 -- the most bytes that an executable may have, and that its input may have
 abbrev pub image_limit : ℕ
@@ -76,40 +77,26 @@ left_line reason at = codes "left " ++ reason_name reason ++ codes " 0x" ++ digi
 abbrev pub budget_line : List ℕ
 budget_line = codes "budget\n"
 
--- the same from the calls and the end of a run
-abbrev pub Reports : List Event → Ending → ℕ → List ℕ → Type 0
-Reports events (ending.Exited status) s text = (s ≡ 0) × (text ≡ event_lines events ++ exit_line status)
-Reports events (ending.Left reason at) s text = (s ≡ 6) × (text ≡ event_lines events ++ left_line reason at)
-Reports events ending.Budget s text = (s ≡ 7) × (text ≡ event_lines events ++ budget_line)
-Reports events ending.Memory s text = ⊥
-
 -- what is printed of a run, and the status
-abbrev pub progress_outcome : Progress → Outcome
-progress_outcome (Done status r) = printed 0 (event_lines r.events ++ exit_line status)
-progress_outcome (Gone reason r) = printed 6 (event_lines r.events ++ left_line reason r.state.at)
-progress_outcome (Going r) = printed 7 (event_lines r.events ++ budget_line)
+abbrev pub progress_response : NumberProgress → Response
+progress_response (Done status r) = printed 0 (event_lines r.events ++ exit_line status)
+progress_response (Gone reason r) = printed 6 (event_lines r.events ++ left_line reason r.state.at)
+progress_response (Going r) = printed 7 (event_lines r.events ++ budget_line)
 
--- a program at its start, with this input and with no answers but whole ones
-abbrev pub start_run : ℕ → List Segment → List ℕ → Run
-start_run entry segments input = start_in entry segments input []
-
--- the file is an executable that comes to this in at most so many steps
-pub record RunsTo (file input : List ℕ) (budget : ℕ) (outcome : Outcome) : Type 0 where
-  pub entry : ℕ
-  pub segments : List Segment
-  pub progress : Progress
-  pub loads : Loads file entry segments
-  pub reaches : Reaches (start_ranges segments) budget (start_run entry segments input) progress
-  pub is : progress_outcome progress ≡ outcome
+-- the file is an executable, and its run of at most so many steps, with this input and no answers, gives this response
+pub record IsProgram (file input : List ℕ) (budget : ℕ) (response : Response) : Type 0 where
+  pub progress : NumberProgress
+  pub runs : RunsTo file input [] budget progress
+  pub is : progress_response progress ≡ response
 
 -- the file is no executable
-pub record IsNoProgram (name file : List ℕ) (outcome : Outcome) : Type 0 where
+pub record IsNoProgram (name file : List ℕ) (response : Response) : Type 0 where
   pub fault : ExecFault
   pub has : HasFault file fault
   pub real : fault ≢ Memory
-  pub is : printed 1 (exec_line name fault) ≡ outcome
+  pub is : printed 1 (exec_line name fault) ≡ response
 
 -- a file that is too long is refused, and else it is read and run
-abbrev pub Executes : List ℕ → List ℕ → List ℕ → ℕ → Option (List ℕ) → Outcome → Type 0
-Executes name file input budget (Some text) outcome = printed 1 text ≡ outcome
-Executes name file input budget None outcome = IsNoProgram name file outcome ⊎ RunsTo file input budget outcome
+abbrev pub Executes : List ℕ → List ℕ → List ℕ → ℕ → Option (List ℕ) → Response → Type 0
+Executes name file input budget (Some text) response = printed 1 text ≡ response
+Executes name file input budget None response = IsNoProgram name file response ⊎ IsProgram file input budget response

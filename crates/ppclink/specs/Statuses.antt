@@ -1,104 +1,116 @@
--- What each status of the command means.
-use Rattle.std.specs.Prelude.{ℕ, ◌≡◌, ◌≢◌, ◌⊎◌, ◌<◌, List, [], Option, Some, None, IsSome, Ok, Err, slice_index_or}
-use Rattle.ppc_outside.specs.Outside.{Files, HasRisen, last_count, Replaced, Prints}
-use Rattle.ppc_outside.specs.declared.outside.OutsideError.TheVariants.{Failed, Memory}
-use Rattle.ppclink.specs.declared.answer.Answer.{Answer}
-use Rattle.ppclink.specs.declared.answer.Answer.TheVariants.{Printed, Written, Unwritten, NoMemory}
-use Rattle.ppclink.specs.Requests.{Request, names_of, out_of, link_to, show_file, run_image, IsLink}
-use Rattle.ppclink.specs.Printed.{Outcome, printed, written}
-use Rattle.ppclink.specs.Outcomes.{ComesIn, first_missing}
-use Rattle.ppclink.specs.Causes.{Outside, Unread, Comes, SameFiles}
+-- What each status of the command means: a status is tied to the store and the console before and after the call, and to what the
+-- words ask for.
+use Rattle.std.specs.Prelude.{ℕ, ◌≡◌, ◌≢◌, ◌⊎◌, ◌<◌, ◌≤◌, List, Option, Some, None, Contains, IsSome}
+use Rattle.ppc_outside.specs.Outside.{Files, StoreState, ConsoleState, HasRisen, RoseOr, last_count, OnlyFetches, SameFiles, IsReplaced, ReplaceFails}
+use Rattle.ppclink.specs.Requests.{Request, names_of, names_asked, out_of}
+use Rattle.ppclink.specs.Lines.{usage_line, unread_line}
+use Rattle.ppclink.specs.Runs.{Response, printed, written}
+use Rattle.ppclink.specs.Responses.{first_missing, RespondsOver, ComesTo}
 
--- a status, or 4 or 5 in its place
-abbrev pub IsOr : ℕ → ℕ → Type 0
-IsOr result status = (result ≡ status) ⊎ (result ≡ 4) ⊎ (result ≡ 5)
+-- a status; or 4 where a put failed, or 5 where memory was refused
+abbrev pub IsOr : ℕ → ℕ → ConsoleState → ConsoleState → Type 0
+IsOr status result before after = (result ≡ status) ⊎ ((result ≡ 4) × HasRisen before.faults after.faults) ⊎ (result ≡ 5)
 
--- a text was printed whole
-abbrev pub Shows : Option (List ℕ) → Option (List ℕ) → List ℕ → Type 0
-Shows old new text = Prints old new text (Ok tt)
+-- 0; or 4 where a replace failed, or 5 where memory was refused
+abbrev pub IsDoneOr : ℕ → StoreState → StoreState → Type 0
+IsDoneOr result before after = (result ≡ 0) ⊎ ((result ≡ 4) × HasRisen before.write_faults after.write_faults) ⊎ (result ≡ 5)
 
--- nothing was printed
-abbrev pub ShowsNothing : Option (List ℕ) → Option (List ℕ) → Type 0
-ShowsNothing old new = Prints old new [] (Err Memory)
+-- no file has changed and no replace has failed; fetches may have
+pub record KeepsFiles (old new : StoreState) : Type 0 where
+  pub told : SameFiles old.told new.told
+  pub write_faults : new.write_faults ≡ old.write_faults
+  pub grows : old.faults ≤ new.faults
 
--- a part of a text was printed
-abbrev pub ShowsPart : Option (List ℕ) → Option (List ℕ) → Type 0
-ShowsPart old new = (text : List ℕ) × Prints old new text (Err Failed)
+-- the store tells its files, and this is the first of the names that none has
+abbrev pub IsFirstMissing : Option Files → List (List ℕ) → List ℕ → Type 0
+IsFirstMissing None names name = ⊥
+IsFirstMissing (Some files) names name = first_missing files names ≡ Some name
 
--- the store tells what it holds, and one of the names is absent
+-- one of the files with these names can't be read, and it is the first that is missing where no fetch may have failed
+pub record IsUnread (old new : StoreState) (names : List (List ℕ)) (name : List ℕ) : Type 0 where
+  pub among : Contains names name
+  pub cause : RoseOr old.faults new.faults (IsFirstMissing old.told names name)
+  pub kept : OnlyFetches old new
+
+-- the store tells its files, and one of the names has none
 abbrev pub LacksOne : Option Files → List (List ℕ) → Type 0
 LacksOne None names = ⊥
 LacksOne (Some files) names = IsSome (first_missing files names)
 
--- a file of the request can't be read
-abbrev pub CannotRead : Outside → Outside → Option Request → Type 0
+-- the words ask for files of which one can't be read
+abbrev pub CannotRead : StoreState → StoreState → Option Request → Type 0
 CannotRead old new None = ⊥
 CannotRead old new (Some request) = (old.faults < new.faults) ⊎ LacksOne old.told (names_of request)
 
--- reading failed at the file of this name
-abbrev pub IsUnread : Outside → Outside → Option Request → List ℕ → Type 0
-IsUnread old new None name = ⊥
-IsUnread old new (Some request) name =
-    (i : ℕ) × (name ≡ slice_index_or (names_of request) i []) × Unread old new (names_of request) i
+-- the words aren't understood, with this status and text
+pub record SaysUsage (old new : StoreState) (found : Option Request) (status : ℕ) (text : List ℕ) : Type 0 where
+  pub none : found ≡ None
+  pub status_is : status ≡ 2
+  pub text_is : text ≡ usage_line
+  pub store : new ≡ old
 
--- the request came to this status with this text
-abbrev pub IsPrinted : Outside → Outside → Option Request → ℕ → List ℕ → Type 0
-IsPrinted old new None status text = ⊥
-IsPrinted old new (Some request) status text = Comes old.told request (printed status text) × (new.faults ≡ old.faults)
+-- a file can't be read, with this status and text
+pub record SaysUnread (old new : StoreState) (found : Option Request) (status : ℕ) (text : List ℕ) : Type 0 where
+  pub name : List ℕ
+  pub unread : IsUnread old new (names_asked found) name
+  pub status_is : status ≡ 3
+  pub text_is : text ≡ unread_line name
 
--- the request was done: its executable was written and nothing printed, or its text was printed and nothing written
-abbrev pub IsDone : Outside → Outside → Option (List ℕ) → Option (List ℕ) → Option Request → Type 0
-IsDone old new c c' None = ⊥
-IsDone old new c c' (Some request) =
-    (new.faults ≡ old.faults) × (new.write_faults ≡ old.write_faults)
-    × (((image : List ℕ) × Comes old.told request (written (out_of request) image) × Replaced old.told new.told (out_of request) image (Ok tt) × ShowsNothing c c')
-    ⊎ ((text : List ℕ) × Comes old.told request (printed 0 text) × (new.told ≡ old.told) × Shows c c' text))
+-- a status of a response that is printed: done, refused, left, or out of steps
+abbrev pub IsOfResponse : ℕ → Type 0
+IsOfResponse status = (status ≤ 1) ⊎ (status ≡ 6) ⊎ (status ≡ 7)
 
--- a write of the request failed
-abbrev pub IsUnwritten : Outside → Outside → Option Request → Type 0
-IsUnwritten old new None = ⊥
-IsUnwritten old new (Some request) = IsLink request × HasRisen old.write_faults new.write_faults
+-- the request comes to this status and text
+pub record SaysResponse (old new : StoreState) (found : Option Request) (status : ℕ) (text : List ℕ) : Type 0 where
+  pub status_is : IsOfResponse status
+  pub comes : ComesTo old found (printed status text)
+  pub store : new ≡ old
 
--- every file but the one to be written is as it was
-abbrev pub SparesOthers : Outside → Outside → Option Request → Type 0
-SparesOthers old new None = SameFiles old.told new.told
-SparesOthers old new (Some request) = Replaced old.told new.told (out_of request) [] (Err Failed)
+-- the one text that a call has to print, with its status
+abbrev pub Says : StoreState → StoreState → Option Request → ℕ → List ℕ → Type 0
+Says old new found status text =
+    SaysUsage old new found status text ⊎ SaysUnread old new found status text ⊎ SaysResponse old new found status text
 
--- a request that is no link writes nothing
-abbrev pub KeepsFiles : Outside → Outside → Option Request → Type 0
-KeepsFiles old new None = new ≡ old
-KeepsFiles old new (Some (link_to out entry files)) = Unit {0}
-KeepsFiles old new (Some (run_image image input budget)) = (new.write_faults ≡ old.write_faults) × SameFiles old.told new.told
-KeepsFiles old new (Some (show_file files)) = (new.write_faults ≡ old.write_faults) × SameFiles old.told new.told
+-- the same whatever the status
+abbrev pub HasText : StoreState → StoreState → Option Request → List ℕ → Type 0
+HasText old new found text = (status : ℕ) × Says old new found status text
 
--- the status of an outcome
-abbrev pub status_of : Outcome → ℕ
-status_of (printed status text) = status
-status_of (written out image) = 0
+-- the executable that a link comes to stands under its name
+pub record HasWritten (old new : StoreState) (found : Option Request) : Type 0 where
+  pub out : List ℕ
+  pub image : List ℕ
+  pub named : out_of found ≡ Some out
+  pub comes : ComesTo old found (written out image)
+  pub store : IsReplaced old new out image
 
--- the store tells its files, no fetch failed or may have, and the request came to this outcome
-pub record Settles (old new : Outside) (found : Option Request) (outcome : Outcome) : Type 0 where
+-- it couldn't be written; every other file is as it was
+pub record HasNotWritten (old new : StoreState) (found : Option Request) : Type 0 where
+  pub out : List ℕ
+  pub image : List ℕ
+  pub named : out_of found ≡ Some out
+  pub comes : ComesTo old found (written out image)
+  pub store : ReplaceFails old new out
+
+-- the store tells its files, no fetch failed or may have, and this is what the words come to
+pub record IsSettled (old new : StoreState) (found : Option Request) (response : Response) : Type 0 where
   pub request : Request
-  pub asked : found ≡ Some request
+  pub is : found ≡ Some request
   pub files : Files
   pub told : old.told ≡ Some files
-  pub came : ComesIn files request outcome
+  pub comes : RespondsOver files request response
   pub quiet : new.faults ≡ old.faults
   pub sound : new.faults ≢ last_count
 
--- no write failed or may have
-abbrev pub IsQuiet : ℕ → ℕ → Type 0
-IsQuiet before now = (now ≡ before) × (now ≢ last_count)
+-- a count of faults didn't rise, and doesn't stand at its last value
+pub record IsQuiet (before now : ℕ) : Type 0 where
+  pub same : now ≡ before
+  pub sound : now ≢ last_count
 
--- how the console took an answer
-abbrev pub Says : Option (List ℕ) → Option (List ℕ) → ℕ → ℕ → List ℕ → ℕ → ℕ → Type 0
-Says c c' g g' text status result =
-    ((result ≡ status) × (g' ≡ g) × Shows c c' text)
-    ⊎ ((result ≡ 4) × HasRisen g g' × Prints c c' text (Err Failed))
-    ⊎ ((result ≡ 5) × (g' ≡ g) × ShowsNothing c c')
+-- the status of a response
+abbrev pub status_of : Response → ℕ
+status_of (printed status text) = status
+status_of (written out image) = 0
 
-abbrev pub Ends : Option (List ℕ) → Option (List ℕ) → ℕ → ℕ → Answer → ℕ → Type 0
-Ends c c' g g' (Printed status text) result = Says c c' g g' text.items status result
-Ends c c' g g' Written result = (result ≡ 0) × (g' ≡ g) × ShowsNothing c c'
-Ends c c' g g' Unwritten result = (result ≡ 4) × (g' ≡ g) × ShowsNothing c c'
-Ends c c' g g' NoMemory result = (result ≡ 5) × (g' ≡ g) × ShowsNothing c c'
+-- how far the counter of steps goes: no call counts one
+abbrev pub Ticks : StoreState → Option Request → ℕ → ℕ → Type 0
+Ticks store found old new = new ≡ old

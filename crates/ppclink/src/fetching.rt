@@ -1,8 +1,8 @@
 // Files are fetched before anything is checked.
-ghost use Rattle.std.specs.Prelude.{◌≡◌, ◌≤◌, ◌<◌, ◌^◌, [], ◌∷◌, length, OnOk, IfOk, IfErr};
+ghost use Rattle.std.specs.Prelude.{◌≡◌, ◌<◌, ◌^◌, length, OnOk, IfOk, IfErr};
 ghost use Rattle.object_set.specs.Files.{contents_of};
 ghost use Rattle.ppclink.specs.Requests.{texts};
-ghost use Rattle.ppclink.specs.Fetching.{HasRead, HaveRead, OneCause, ManyCause, file_limit};
+ghost use Rattle.ppclink.specs.inside.Fetched.{HasRead, HaveRead, OneCause, ManyCause, file_limit};
 
 use elf64_records::constants::FILE_LIMIT;
 use link_engine::FileBytes;
@@ -26,11 +26,11 @@ pub fn fetch<S: Store>(
     store: &mut S,
 ) -> Result<Vec<u8>, OutsideError>
     requires { limit < 2 ^ 32 }
-    ensures told { S.told store.new ≡ S.told store.old }
-    ensures write_faults { S.write_faults store.new ≡ S.write_faults store.old }
-    ensures ok { IfOk result (λ bytes. HasRead (S.told store.old) limit name.now bytes.items) }
-    ensures ok_faults { OnOk result (S.faults store.new ≡ S.faults store.old) }
-    ensures cause { IfErr result (OneCause (S.told store.old) name.now (S.faults store.old) (S.faults store.new)) }
+    ensures ok { IfOk result (λ bytes.
+        HasRead (S.state store.old).told limit name.now bytes.items) }
+    ensures kept { OnOk result (S.state store.new ≡ S.state store.old) }
+    ensures cause { IfErr result (λ error.
+        OneCause (S.state store.old) (S.state store.new) name.now error) }
 {
     let mut bytes = Vec::new(alloc);
     match store.fetch(name, limit + 1, &mut bytes) {
@@ -41,11 +41,11 @@ pub fn fetch<S: Store>(
 
 // Fetches an object file.
 fn fetch_file<S: Store>(alloc: Global, name: &str, store: &mut S) -> Result<FileBytes, OutsideError>
-    ensures told { S.told store.new ≡ S.told store.old }
-    ensures write_faults { S.write_faults store.new ≡ S.write_faults store.old }
-    ensures ok { IfOk result (λ file. HasRead (S.told store.old) file_limit name.now file.bytes.items) }
-    ensures ok_faults { OnOk result (S.faults store.new ≡ S.faults store.old) }
-    ensures cause { IfErr result (OneCause (S.told store.old) name.now (S.faults store.old) (S.faults store.new)) }
+    ensures ok { IfOk result (λ file.
+        HasRead (S.state store.old).told file_limit name.now file.bytes.items) }
+    ensures kept { OnOk result (S.state store.new ≡ S.state store.old) }
+    ensures cause { IfErr result (λ error.
+        OneCause (S.state store.old) (S.state store.new) name.now error) }
 {
     let Ok(owned) = String::from_str(alloc, name) else {
         return Err(OutsideError::Memory);
@@ -62,12 +62,12 @@ pub fn fetch_files<S: Store>(
     names: &[String],
     store: &mut S,
 ) -> Result<Vec<FileBytes>, Unfetched>
-    ensures told { S.told store.new ≡ S.told store.old }
-    ensures write_faults { S.write_faults store.new ≡ S.write_faults store.old }
-    ensures ok { IfOk result (λ files. HaveRead (S.told store.old) (texts names.now) (contents_of files.items)) }
+    ensures ok { IfOk result (λ files.
+        HaveRead (S.state store.old).told (texts names.now) (contents_of files.items)) }
     ensures count { IfOk result (λ files. length files.items ≡ length names.now) }
-    ensures ok_faults { OnOk result (S.faults store.new ≡ S.faults store.old) }
-    ensures cause { IfErr result (ManyCause (S.told store.old) (texts names.now) (S.faults store.old) (S.faults store.new)) }
+    ensures kept { OnOk result (S.state store.new ≡ S.state store.old) }
+    ensures cause { IfErr result (λ cause.
+        ManyCause (S.state store.old) (S.state store.new) (texts names.now) cause) }
 {
     let mut files = Vec::new(alloc);
     for (i, name) in names.iter().enumerate() {
@@ -81,12 +81,4 @@ pub fn fetch_files<S: Store>(
         }
     }
     Ok(files)
-}
-
-/// The bytes of the only file.
-pub fn only(files: &[FileBytes]) -> &[u8]
-    requires { length files.now ≡ 1 }
-    ensures { contents_of files.now ≡ result.now ∷ [] }
-{
-    files[0].bytes.as_slice()
 }

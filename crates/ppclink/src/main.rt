@@ -1,7 +1,6 @@
-// The linker's command: words in, a status and text out, over files and a console.
+//! The linker's command: words in, a status and text out, over files and a console.
 #![tactic(auto)]
 
-mod answer;
 mod fetching;
 mod lines;
 #[cfg(test)]
@@ -11,6 +10,7 @@ mod perform;
 mod report;
 #[cfg(test)]
 mod run_tests;
+mod run_text;
 mod running;
 mod show;
 #[cfg(test)]
@@ -22,7 +22,9 @@ ghost use Rattle.std.specs.Prelude.{◌≡◌, ◌<◌};
 
 use link_engine::Steps;
 use ppc_outside::{DirStore, StdConsole};
+use std::alloc::AllocError;
 use std::env;
+use std::io::ErrorKind;
 use std::marker::Brand;
 use std::process::ExitCode;
 use std::sync::ledger::{Blank, Ledger};
@@ -31,13 +33,20 @@ use top::command;
 /// The status where memory is refused.
 const NO_MEMORY: u8 = 5;
 
-// The words of the command line, without the program's name.
-fn command_words(rt: &HostRuntime) -> Option<Vec<String>> {
+// The words of the command line, without the program's name. A command line that isn't all UTF-8 is none that is understood, and
+// gives no words at all.
+fn command_words(rt: &HostRuntime) -> Result<Vec<String>, AllocError> {
     let mut words = Vec::new(rt.alloc());
-    for word in env::args(rt).ok()?.skip(1) {
-        words.push(word).ok()?;
+    match env::args(rt) {
+        Ok(all) => {
+            for word in all.skip(1) {
+                words.push(word)?;
+            }
+            Ok(words)
+        }
+        Err(error) if error.kind() == ErrorKind::InvalidData => Ok(words),
+        Err(_) => Err(AllocError),
     }
-    Some(words)
 }
 
 // Runs the command over the real files and standard output.
@@ -46,7 +55,7 @@ fn run<L: Ledger>(rt: &HostRuntime, blank: Blank) -> u8
     requires parts { blank.parts ≡ L.parts }
     requires some { 0 < L.parts }
 {
-    let Some(words) = command_words(rt) else {
+    let Ok(words) = command_words(rt) else {
         return NO_MEMORY;
     };
     let mut store = DirStore::new(*rt);

@@ -1,18 +1,19 @@
 // What the command does over the files, before it prints.
-ghost use Rattle.std.specs.Prelude.{◌≡◌, ◌≤◌, length, Some, Ok, Err, None, IfOk, IfErr, OnOk};
-ghost use Rattle.ppclink.specs.Outcomes.{view_refusal, usual_options};
-ghost use Rattle.ppclink.specs.Requests.{request_of, texts, link_to, show_file};
-ghost use Rattle.ppclink.specs.Causes.{outside, Causes, AnswersReplace, AnswersShow};
-ghost use Rattle.ppclink.specs.Fetching.{HaveRead};
+ghost use Rattle.std.specs.Prelude.{◌≡◌, ◌≤◌, length, Some, None, IfOk, IfErr, OnOk, string_bytes};
 ghost use Rattle.object_set.specs.Files.{contents_of};
 ghost use Rattle.link_engine.specs.Options.{InRange};
+ghost use Rattle.ppclink.specs.Requests.{request_of, texts, link_to, show_file};
+ghost use Rattle.ppclink.specs.Responses.{view_refusal};
+ghost use Rattle.ppclink.specs.inside.Commands.{link_options};
+ghost use Rattle.ppclink.specs.inside.Fetched.{HaveRead};
+ghost use Rattle.ppclink.specs.inside.Reports.{Causes, ReplaceReport, TextReport, ShowsFile};
 
-use crate::answer::{Answer, printed};
-use crate::fetching::{Unfetched, fetch_files, only};
+use crate::fetching::{Unfetched, fetch, fetch_files};
 use crate::lines::{refusal_line, unread_line, usage_line};
+use crate::report::{Report, text_report, unread_report};
 use crate::running::perform_run;
 use crate::show::shown;
-use crate::words::{Command, parse};
+use crate::words::{Command, LinkOptions, parse};
 use elf64_records::ObjectView;
 use elf64_records::constants::FILE_LIMIT;
 use link_engine::{FileBytes, Options, Refusal, Steps, link};
@@ -20,26 +21,27 @@ use object_set::refusal_of;
 use ppc_bytes::Memory;
 use ppc_outside::{OutsideError, Store};
 use std::alloc::Global;
+use std::slice;
 use std::sync::ledger::Ledger;
 
 // The executable takes the place of the named file.
-fn write_out<S: Store>(out: &str, image: &[u8], store: &mut S) -> Answer
-    ensures { AnswersReplace (S.told store.old) (S.told store.new) out.now image.now (S.faults store.old) (S.faults store.new) (S.write_faults store.old) (S.write_faults store.new) result }
+fn write_out<S: Store>(out: &str, image: &[u8], store: &mut S) -> Report
+    ensures { ReplaceReport (S.state store.old) (S.state store.new) out.now image.now result }
 {
     match store.replace(out, image) {
-        Ok(()) => Answer::Written,
-        Err(OutsideError::Failed) => Answer::Unwritten,
-        Err(OutsideError::Memory) => Answer::NoMemory,
+        Ok(()) => Report::Written,
+        Err(OutsideError::Failed) => Report::Unwritten,
+        Err(OutsideError::Memory) => Report::NoMemory,
     }
 }
 
-// The options of a link with this entry.
-fn options_of(alloc: Global, entry: &str) -> Result<Options, Memory>
+// The options as the link takes them.
+fn options_of(alloc: Global, options: LinkOptions<'_>) -> Result<Options, Memory>
     ensures range { IfOk result InRange }
-    ensures usual { IfOk result (λ o. o ≡ usual_options entry.now) }
+    ensures same { IfOk result (λ o. o ≡ link_options options.entry) }
 {
     Ok(Options {
-        entry: String::from_str(alloc, entry)?,
+        entry: String::from_str(alloc, options.entry)?,
         branch_span: 0x200_0000,
         toc_span: 0x1_0000,
     })
@@ -49,25 +51,26 @@ fn options_of(alloc: Global, entry: &str) -> Result<Options, Memory>
 fn link_fetched<S: Store, L: Ledger>(
     alloc: Global,
     out: &str,
-    entry: &str,
+    options: LinkOptions<'_>,
     names: &[String],
     files: &[FileBytes],
     store: &mut S,
     steps: &mut Steps<L>,
-) -> Answer
+) -> Report
     requires some { 1 ≤ length names.now }
     requires few { length names.now ≤ 4096 }
     requires count { length files.now ≡ length names.now }
-    requires read { HaveRead (S.told store.old) (texts names.now) (contents_of files.now) }
-    ensures causes { Causes (outside (S.told store.old) (S.faults store.old) (S.write_faults store.old)) (outside (S.told store.new) (S.faults store.new) (S.write_faults store.new)) (Some (link_to out.now entry.now (texts names.now))) result }
+    requires read { HaveRead (S.state store.old).told (texts names.now) (contents_of files.now) }
+    ensures causes { Causes (S.state store.old) (S.state store.new)
+        (Some (link_to out.now (link_options options.entry) (texts names.now))) result }
     ensures steps { steps.new ≡ steps.old }
 {
-    let Ok(options) = options_of(alloc, entry) else {
-        return Answer::NoMemory;
+    let Ok(options) = options_of(alloc, options) else {
+        return Report::NoMemory;
     };
     match link(alloc, files, &options, steps) {
         Ok(linked) => write_out(out, linked.image.as_slice(), store),
-        Err(refusal) => printed(1, refusal_line(alloc, names, &refusal)),
+        Err(refusal) => text_report(1, refusal_line(alloc, names, &refusal)),
     }
 }
 
@@ -75,20 +78,21 @@ fn link_fetched<S: Store, L: Ledger>(
 fn perform_link<S: Store, L: Ledger>(
     alloc: Global,
     out: &str,
-    entry: &str,
+    options: LinkOptions<'_>,
     names: &[String],
     store: &mut S,
     steps: &mut Steps<L>,
-) -> Answer
+) -> Report
     requires some { 1 ≤ length names.now }
     requires few { length names.now ≤ 4096 }
-    ensures causes { Causes (outside (S.told store.old) (S.faults store.old) (S.write_faults store.old)) (outside (S.told store.new) (S.faults store.new) (S.write_faults store.new)) (Some (link_to out.now entry.now (texts names.now))) result }
+    ensures causes { Causes (S.state store.old) (S.state store.new)
+        (Some (link_to out.now (link_options options.entry) (texts names.now))) result }
     ensures steps { steps.new ≡ steps.old }
 {
     match fetch_files(alloc, names, store) {
-        Ok(files) => link_fetched(alloc, out, entry, names, files.as_slice(), store, steps),
-        Err(Unfetched::Failed(i)) => printed(3, unread_line(alloc, names[i].as_str())),
-        Err(Unfetched::Memory) => Answer::NoMemory,
+        Ok(files) => link_fetched(alloc, out, options, names, files.as_slice(), store, steps),
+        Err(Unfetched::Failed(i)) => text_report(3, unread_line(alloc, names[i].as_str())),
+        Err(Unfetched::Memory) => Report::NoMemory,
     }
 }
 
@@ -109,24 +113,23 @@ fn view_of(b: &[u8]) -> Result<ObjectView<'_>, Refusal>
 }
 
 // The text of an object file, or the line of what is wrong with it.
-fn show_fetched(alloc: Global, names: &[String], b: &[u8]) -> Answer
-    ensures { AnswersShow (texts names.now) b.now result }
+fn show_fetched(alloc: Global, name: &String, b: &[u8]) -> Report
+    ensures { TextReport (ShowsFile (string_bytes name.now) b.now) result }
 {
     match view_of(b) {
-        Ok(view) => printed(0, shown(alloc, &view)),
-        Err(refusal) => printed(1, refusal_line(alloc, names, &refusal)),
+        Ok(view) => text_report(0, shown(alloc, &view)),
+        Err(refusal) => text_report(1, refusal_line(alloc, slice::from_ref(name), &refusal)),
     }
 }
 
 // Shows the named file.
-fn perform_show<S: Store>(alloc: Global, names: &[String], store: &mut S) -> Answer
-    requires { length names.now ≡ 1 }
-    ensures causes { Causes (outside (S.told store.old) (S.faults store.old) (S.write_faults store.old)) (outside (S.told store.new) (S.faults store.new) (S.write_faults store.new)) (Some (show_file (texts names.now))) result }
+fn perform_show<S: Store>(alloc: Global, name: &String, store: &mut S) -> Report
+    ensures { Causes (S.state store.old) (S.state store.new)
+        (Some (show_file (string_bytes name.now))) result }
 {
-    match fetch_files(alloc, names, store) {
-        Ok(files) => show_fetched(alloc, names, only(&files)),
-        Err(Unfetched::Failed(i)) => printed(3, unread_line(alloc, names[i].as_str())),
-        Err(Unfetched::Memory) => Answer::NoMemory,
+    match fetch(alloc, name.as_str(), FILE_LIMIT, store) {
+        Ok(bytes) => show_fetched(alloc, name, bytes.as_slice()),
+        Err(error) => unread_report(alloc, name.as_str(), error),
     }
 }
 
@@ -136,22 +139,22 @@ pub fn perform<S: Store, L: Ledger>(
     words: &[String],
     store: &mut S,
     steps: &mut Steps<L>,
-) -> Answer
-    ensures causes { Causes (outside (S.told store.old) (S.faults store.old) (S.write_faults store.old)) (outside (S.told store.new) (S.faults store.new) (S.write_faults store.new)) (request_of (texts words.now)) result }
+) -> Report
+    ensures causes { Causes (S.state store.old) (S.state store.new)
+        (request_of (texts words.now)) result }
+    ensures untouched { request_of (texts words.now) ≡ None → S.state store.new ≡ S.state store.old }
     ensures steps { steps.new ≡ steps.old }
 {
     match parse(words) {
-        Some(Command::Link { out, entry, files }) => {
-            perform_link(alloc, out, entry, files, store, steps)
-        }
-        Some(Command::Show { files }) => perform_show(alloc, files, store),
         Some(
-            Command::Run {
-                image,
-                input,
-                budget,
+            Command::Link {
+                out,
+                options,
+                files,
             },
-        ) => perform_run(alloc, image, input, budget, store),
-        None => printed(2, usage_line(alloc)),
+        ) => perform_link(alloc, out, options, files, store, steps),
+        Some(Command::Show { file }) => perform_show(alloc, file, store),
+        Some(Command::Run { options, image }) => perform_run(alloc, options, image, store),
+        None => text_report(2, usage_line(alloc)),
     }
 }

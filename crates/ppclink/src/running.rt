@@ -1,19 +1,18 @@
 // An executable is run on the machine of numbers, and its calls and its end are printed.
-ghost use Rattle.std.specs.Prelude.{◌≡◌, ◌≢◌, ◌≤◌, ◌<◌, Some, None, IfOk, OnOk, length};
+ghost use Rattle.std.specs.Prelude.{◌≡◌, ◌≢◌, Some, None, IfOk, OnOk};
 ghost use Rattle.std.specs.Option.{option_map};
 ghost use Rattle.elf64_exec.specs.Executable.{ArePlaced};
-ghost use Rattle.power_machine.specs.Start.{start_ranges};
-ghost use Rattle.power_machine.specs.Steps.{NumberProgress as Progress, ReachesIn as Reaches};
 ghost use Rattle.ppclink.specs.Requests.{run_image};
-ghost use Rattle.ppclink.specs.Printed.{printed as printed_of};
-ghost use Rattle.ppclink.specs.Fetching.{HasRead};
-ghost use Rattle.ppclink.specs.Causes.{outside, Causes, AnswersRun, AnswersProgram};
-ghost use Rattle.ppclink.specs.Runs.{Executes, Reports, progress_outcome, start_run, exec_line, image_limit};
+ghost use Rattle.ppclink.specs.Runs.{exec_line, long_line, image_limit};
+ghost use Rattle.ppclink.specs.inside.Commands.{run_options};
+ghost use Rattle.ppclink.specs.inside.Fetched.{HasRead};
+ghost use Rattle.ppclink.specs.inside.Reports.{Causes, TextReport, RunSays, SaysRun, SaysEnd};
 
-use crate::answer::{Answer, printed, unread};
 use crate::fetching::fetch;
 use crate::lines::{about, numbered};
-use crate::report::{event_lines, push_budget, push_exit, push_left};
+use crate::report::{Report, text_report, unread_report};
+use crate::run_text::{event_lines, push_budget, push_exit, push_left};
+use crate::words::RunOptions;
 use elf64_exec::{ExecFault, Segments, read_exec};
 use power_machine::{Event, Machine, Outcome, World};
 use ppc_bytes::Memory;
@@ -42,115 +41,123 @@ fn exec_line(alloc: Global, name: &str, fault: ExecFault) -> Result<Vec<u8>, Mem
     }
 }
 
-// The status and the text of a run.
-fn report(alloc: Global, events: &[Event], outcome: Outcome) -> Result<(u8, Vec<u8>), Memory>
-    ensures { IfOk result (λ r. Reports events.now outcome r.0 r.1.items) }
+/// The status and the text of a run.
+#[derive(Drop)]
+struct RunText {
+    status: u8,
+    text: Vec<u8>,
+}
+
+// What is printed of a run, from its calls and its end.
+fn run_text(alloc: Global, events: &[Event], outcome: Outcome) -> Result<RunText, Memory>
+    ensures { IfOk result (λ r. SaysEnd events.now outcome r.status r.text.items) }
 {
     let mut text = event_lines(alloc, events)?;
     match outcome {
         Outcome::Exited(status) => {
             push_exit(alloc, &mut text, status)?;
-            Ok((0, text))
+            Ok(RunText { status: 0, text })
         }
         Outcome::Left(reason, at) => {
             push_left(alloc, &mut text, reason, at)?;
-            Ok((6, text))
+            Ok(RunText { status: 6, text })
         }
         Outcome::Budget => {
             push_budget(&mut text)?;
-            Ok((7, text))
+            Ok(RunText { status: 7, text })
         }
         Outcome::Memory => Err(Memory),
     }
 }
 
-// Runs a program from its start, and gives the status and the text.
+// Runs a program from its start.
 fn run_program(
     alloc: Global,
     segments: Segments,
     input: Vec<u8>,
     budget: u32,
-) -> Result<(u8, Vec<u8>), Memory>
+) -> Result<RunText, Memory>
     requires { ArePlaced segments.list.items }
-    ensures { IfOk result (λ r. (p : Progress) × Reaches (start_ranges segments.list.items) budget (start_run segments.entry segments.list.items input.items) p × (progress_outcome p ≡ printed_of r.0 r.1.items)) }
+    ensures { IfOk result (λ r.
+        RunSays segments.entry segments.list.items input.items budget r.status r.text.items) }
 {
     let mut machine = Machine::load(alloc, segments)?;
     let mut world = World::new(input, Vec::new(alloc));
     let outcome = machine.run(u64::from(budget), &mut world);
-    report(alloc, machine.events().as_slice(), outcome)
+    run_text(alloc, machine.events().as_slice(), outcome)
 }
 
 // Reads an executable and runs it.
-fn execute(alloc: Global, name: &str, file: Vec<u8>, input: Vec<u8>, budget: u32) -> Answer
-    ensures { AnswersProgram name.now file.items input.items budget result }
+fn execute(alloc: Global, name: &str, file: Vec<u8>, input: Vec<u8>, budget: u32) -> Report
+    ensures { TextReport (SaysRun name.now file.items input.items budget None) result }
 {
     let read = read_exec(alloc, file.as_slice());
     drop(file);
     let segments = match read {
         Ok(segments) => segments,
-        Err(fault) => return printed(1, exec_line(alloc, name, fault)),
+        Err(fault) => return text_report(1, exec_line(alloc, name, fault)),
     };
     match run_program(alloc, segments, input, budget) {
-        Ok((status, text)) => Answer::Printed { status, text },
-        Err(Memory) => Answer::NoMemory,
+        Ok(RunText { status, text }) => Report::Text { status, text },
+        Err(Memory) => Report::NoMemory,
     }
 }
 
 // Runs an executable that was fetched, with its input.
 fn run_fetched(
     alloc: Global,
+    options: RunOptions<'_>,
     image: &str,
-    input: Option<&str>,
     file: Vec<u8>,
     given: Vec<u8>,
-    budget: u32,
-) -> Answer
-    ensures { AnswersRun image.now (option_map (λ i. i.now) input.entry) budget file.items given.items result }
+) -> Report
+    ensures { TextReport (SaysRun image.now file.items given.items options.entry.budget
+        (long_line image.now (run_options options.entry).input file.items given.items)) result }
 {
-    if let Some(name) = input {
+    if let Some(name) = options.input {
         if given.len() > INPUT_LIMIT {
-            return printed(1, about(alloc, name.as_bytes(), b"", b"file too long"));
+            return text_report(1, about(alloc, name.as_bytes(), b"", b"file too long"));
         }
     }
     if file.len() > IMAGE_LIMIT {
-        return printed(1, about(alloc, image.as_bytes(), b"", b"file too long"));
+        return text_report(1, about(alloc, image.as_bytes(), b"", b"file too long"));
     }
-    execute(alloc, image, file, given, budget)
+    execute(alloc, image, file, given, options.budget)
 }
 
 // Fetches the input, if there is one, and runs.
 fn run_with_input<S: Store>(
     alloc: Global,
+    options: RunOptions<'_>,
     image: &str,
-    input: Option<&str>,
     file: Vec<u8>,
-    budget: u32,
     store: &mut S,
-) -> Answer
-    requires read { HasRead (S.told store.old) image_limit image.now file.items }
-    ensures causes { Causes (outside (S.told store.old) (S.faults store.old) (S.write_faults store.old)) (outside (S.told store.new) (S.faults store.new) (S.write_faults store.new)) (Some (run_image image.now (option_map (λ i. i.now) input.entry) budget)) result }
+) -> Report
+    requires { HasRead (S.state store.old).told image_limit image.now file.items }
+    ensures { Causes (S.state store.old) (S.state store.new)
+        (Some (run_image (run_options options.entry) image.now)) result }
 {
-    let Some(name) = input else {
-        return run_fetched(alloc, image, None, file, Vec::new(alloc), budget);
+    let Some(name) = options.input else {
+        return run_fetched(alloc, options, image, file, Vec::new(alloc));
     };
     match fetch(alloc, name, INPUT_LIMIT, store) {
-        Ok(given) => run_fetched(alloc, image, Some(name), file, given, budget),
-        Err(error) => unread(alloc, name, error),
+        Ok(given) => run_fetched(alloc, options, image, file, given),
+        Err(error) => unread_report(alloc, name, error),
     }
 }
 
-/// Runs the named executable with at most so many steps, in a world with the input of the named file, or with none.
+/// Runs the named executable, in a world with the input of the file that the options name, or with none.
 pub fn perform_run<S: Store>(
     alloc: Global,
+    options: RunOptions<'_>,
     image: &str,
-    input: Option<&str>,
-    budget: u32,
     store: &mut S,
-) -> Answer
-    ensures causes { Causes (outside (S.told store.old) (S.faults store.old) (S.write_faults store.old)) (outside (S.told store.new) (S.faults store.new) (S.write_faults store.new)) (Some (run_image image.now (option_map (λ i. i.now) input.entry) budget)) result }
+) -> Report
+    ensures { Causes (S.state store.old) (S.state store.new)
+        (Some (run_image (run_options options.entry) image.now)) result }
 {
     match fetch(alloc, image, IMAGE_LIMIT, store) {
-        Ok(file) => run_with_input(alloc, image, input, file, budget, store),
-        Err(error) => unread(alloc, image, error),
+        Ok(file) => run_with_input(alloc, options, image, file, store),
+        Err(error) => unread_report(alloc, image, error),
     }
 }

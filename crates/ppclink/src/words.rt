@@ -2,7 +2,8 @@
 ghost use Rattle.std.specs.Prelude.{◌≡◌, IfSome, string_bytes};
 ghost use Rattle.std.specs.List.{list_all};
 ghost use Rattle.std.specs.Option.{option_map};
-ghost use Rattle.ppclink.specs.Requests.{request_of, link_request, link_with_entry, link_from, are_files, show_request, run_request, run_with_input, run_from, texts, meaning, is_file_name, HasFiles};
+ghost use Rattle.ppclink.specs.Requests.{request_of, link_request, link_with_entry, link_from, are_files, show_request, run_request, run_with_input, run_from, texts, is_file_name};
+ghost use Rattle.ppclink.specs.inside.Commands.{meaning, link_options, HasFiles};
 
 use crate::numbers::number_of;
 
@@ -15,6 +16,22 @@ const USUAL_ENTRY: &str = "_start";
 /// How many files a link takes at most.
 const FILE_COUNT_LIMIT: usize = 4096;
 
+/// The options of a link.
+#[derive(Clone, Copy, Debug)]
+pub struct LinkOptions<'a> {
+    /// The name of the symbol where the executable is entered.
+    pub entry: &'a str,
+}
+
+/// The options of a run.
+#[derive(Clone, Copy, Debug)]
+pub struct RunOptions<'a> {
+    /// The name of the file that the run reads, if there is one.
+    pub input: Option<&'a str>,
+    /// How many steps it may take.
+    pub budget: u32,
+}
+
 /// A command whose words were understood.
 #[derive(Clone, Copy, Debug)]
 pub enum Command<'a> {
@@ -22,24 +39,22 @@ pub enum Command<'a> {
     Link {
         /// The name of the executable.
         out: &'a str,
-        /// The name of the symbol where it is entered.
-        entry: &'a str,
+        /// The options.
+        options: LinkOptions<'a>,
         /// The names of the object files, of which there are 1 to 4096.
         files: &'a [String],
     },
     /// Shows an object file.
     Show {
-        /// The name of the file, alone.
-        files: &'a [String],
+        /// The name of the file.
+        file: &'a String,
     },
     /// Runs an executable.
     Run {
+        /// The options.
+        options: RunOptions<'a>,
         /// The name of the executable.
         image: &'a str,
-        /// The name of the file that it reads, if there is one.
-        input: Option<&'a str>,
-        /// How many steps it may take.
-        budget: u32,
     },
 }
 
@@ -69,14 +84,19 @@ fn are_files(words: &[String]) -> bool
 }
 
 // The words of a link behind its options.
-fn parse_files<'a>(out: &'a str, entry: &'a str, words: &'a [String]) -> Option<Command<'a>>
-    ensures value { option_map meaning result ≡ link_from out.now entry.now (texts words.now) }
+fn parse_files<'a>(
+    out: &'a str,
+    options: LinkOptions<'a>,
+    words: &'a [String],
+) -> Option<Command<'a>>
+    ensures value { option_map meaning result
+        ≡ link_from out.now (link_options options.entry) (texts words.now) }
     ensures files { IfSome result HasFiles }
 {
     if are_files(words) {
         Some(Command::Link {
             out,
-            entry,
+            options,
             files: words,
         })
     } else {
@@ -94,10 +114,11 @@ fn parse_entry<'a>(out: &'a str, words: &'a [String]) -> Option<Command<'a>>
             if entry.is_empty() {
                 None
             } else {
-                parse_files(out, entry.as_str(), files)
+                let entry = entry.as_str();
+                parse_files(out, LinkOptions { entry }, files)
             }
         }
-        _ => parse_files(out, USUAL_ENTRY, words),
+        _ => parse_files(out, LinkOptions { entry: USUAL_ENTRY }, words),
     }
 }
 
@@ -120,7 +141,7 @@ fn parse_show(words: &[String]) -> Option<Command<'_>>
     ensures files { IfSome result HasFiles }
 {
     match words {
-        [file] if is_file_name(file.as_str()) => Some(Command::Show { files: words }),
+        [file] if is_file_name(file.as_str()) => Some(Command::Show { file }),
         _ => None,
     }
 }
@@ -132,15 +153,21 @@ fn parse_image<'a>(
     input: Option<&'a str>,
     words: &'a [String],
 ) -> Option<Command<'a>>
-    ensures value { option_map meaning result ≡ run_from budget (option_map (λ i. i.now) input.entry) (texts words.now) }
+    ensures value { option_map meaning result
+        ≡ run_from budget (option_map (λ i. i.now) input.entry) (texts words.now) }
     ensures files { IfSome result HasFiles }
 {
     match words {
-        [image] if is_file_name(image.as_str()) => Some(Command::Run {
-            image: image.as_str(),
-            input,
-            budget: budget?,
-        }),
+        [image] if is_file_name(image.as_str()) => {
+            let options = RunOptions {
+                input,
+                budget: budget?,
+            };
+            Some(Command::Run {
+                options,
+                image: image.as_str(),
+            })
+        }
         _ => None,
     }
 }

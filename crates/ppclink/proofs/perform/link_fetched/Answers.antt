@@ -1,20 +1,25 @@
+-- The executable of the files that were fetched is written, and a refusal of them is told by its line.
 use Rattle.std.proofs.Common.{refl, sym, subst}
 use Rattle.std.specs.Prelude.{Ok}
 use Rattle.object_set.specs.Files.{contents_of}
 use Rattle.link_engine.specs.Link.{LinksTo}
 use Rattle.ppclink.specs.Requests.{texts}
-use Rattle.ppclink.proofs.Linking.{comes_written, write_causes, refuse_causes}
+use Rattle.ppclink.specs.inside.Commands.{link_options}
+use Rattle.ppclink.proofs.Linking.{write_causes, refuse_causes}
 use Rattle.ppclink.proofs.perform.link_fetched.Goals as goal
 
 pub returns-in-Ok-link-clause-causes : goal.returns-in-Ok-link-clause-causes
 returns-in-Ok-link-clause-causes g c =
-    write_causes _ _ _ _ _ _ c.args.out.now _ _ c.write_out.result tt refl
-    (comes_written _ c.args.out.now c.args.entry.now _ c.in-Ok.options (texts c.args.names.now) (contents_of c.args.files.now) c.in-Ok.ensures.usual c.requires.read
-    (subst (λ i. LinksTo (contents_of c.args.files.now) c.in-Ok.options (Ok i)) (sym c.as_slice.ensures.value) c.in-Ok-link.ensures.linked))
+    write_causes _ _ c.args.out.now _ (link_options c.args.options) c.in-Ok.options (texts c.args.names.now) (contents_of c.args.files.now)
+    c.write_out.result c.in-Ok.ensures.same c.requires.read
+    (subst (λ i. LinksTo (contents_of c.args.files.now) c.in-Ok.options (Ok i)) (sym c.as_slice.ensures.value) c.in-Ok-link.ensures.linked)
     c.write_out.ensures
 
 pub returns : goal.returns
 returns g c = record {
-  causes = refuse_causes _ _ _ c.args.out.now c.args.entry.now c.in-Ok.options (texts c.args.names.now) (contents_of c.args.files.now) c.in-Err.refusal c.refusal_line.result c.printed.result c.in-Ok.ensures.usual c.requires.read c.in-Err.ensures.refused c.refusal_line.ensures.line c.refusal_line.ensures.stated c.printed.ensures;
+  causes =
+      refuse_causes _ _ c.args.out.now (link_options c.args.options) c.in-Ok.options (texts c.args.names.now) (contents_of c.args.files.now)
+      c.in-Err.refusal c.refusal_line.result c.text_report.result c.in-Ok.ensures.same refl c.requires.read c.in-Err.ensures.refused
+      c.refusal_line.ensures.line c.refusal_line.ensures.stated c.text_report.ensures;
   steps = c.link.ensures.steps;
 }

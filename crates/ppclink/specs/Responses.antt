@@ -1,0 +1,83 @@
+-- What a request comes to, given what the files hold.
+use Rattle.std.specs.Prelude.{ℕ, ◌≡◌, List, [], ◌∷◌, map, Option, Some, None, unwrap_or, Ok, Err}
+use Rattle.elf64_records.specs.First.{◌orelse◌}
+use Rattle.object_set.specs.Refusals.{length_refusal, fault_refusal}
+use Rattle.object_set.specs.declared.refusal.Refusal.{Refusal}
+use Rattle.link_engine.specs.Link.{LinkOutcome, LinksTo}
+use Rattle.link_engine.specs.Options.{LinkOptions}
+use Rattle.ppc_outside.specs.Outside.{Files, StoreState}
+use Rattle.ppclink.specs.Requests.{Request, link_to, show_file, run_image, names_of}
+use Rattle.ppclink.specs.Lines.{refusal_line, unread_line}
+use Rattle.ppclink.specs.Show.{shown}
+use Rattle.ppclink.specs.Runs.{Response, printed, written, Executes, long_line}
+
+-- what a link comes to, as a response: the line of its refusal, or the executable
+abbrev pub link_response : List ℕ → List (List ℕ) → LinkOutcome → Response
+link_response out names (Err refusal) = printed 1 (refusal_line names refusal)
+link_response out names (Ok image) = written out image
+
+-- a link of these contents
+pub record LinkResponds (out : List ℕ) (options : LinkOptions) (names contents : List (List ℕ)) (response : Response) : Type 0 where
+  pub outcome : LinkOutcome
+  pub links : LinksTo contents options outcome
+  pub is : link_response out names outcome ≡ response
+
+-- why an object file can't be shown
+abbrev pub view_refusal : List ℕ → Option Refusal
+view_refusal b = length_refusal 0 b orelse fault_refusal 0 b
+
+-- a file that is shown: the line of what is wrong with it, or its text
+abbrev pub show_response : List ℕ → List ℕ → Option Refusal → Response
+show_response name b (Some refusal) = printed 1 (refusal_line (name ∷ []) refusal)
+show_response name b None = printed 0 (shown b)
+
+abbrev pub ShowResponds : List ℕ → List (List ℕ) → Response → Type 0
+ShowResponds name (b ∷ []) response = show_response name b (view_refusal b) ≡ response
+ShowResponds name contents response = ⊥
+
+-- an executable that is run, with the bytes of its input or none
+abbrev pub RunResponds : ℕ → List ℕ → Option (List ℕ) → List (List ℕ) → Response → Type 0
+RunResponds budget image None (file ∷ []) response = Executes image file [] budget (long_line image None file []) response
+RunResponds budget image (Some input) (file ∷ given ∷ []) response =
+    Executes image file given budget (long_line image (Some input) file given) response
+RunResponds budget image input contents response = ⊥
+
+-- what a request comes to where the files that it names have these contents
+abbrev pub Responds : Request → List (List ℕ) → Response → Type 0
+Responds (link_to out options names) contents response = LinkResponds out options names contents response
+Responds (show_file name) contents response = ShowResponds name contents response
+Responds (run_image options image) contents response = RunResponds options.budget image options.input contents response
+
+-- a name that has no file, or else the later one
+abbrev pub or_missing : Option (List ℕ) → List ℕ → Option (List ℕ) → Option (List ℕ)
+or_missing None name later = Some name
+or_missing (Some bytes) name later = later
+
+-- the first name that has no file
+abbrev pub first_missing : Files → List (List ℕ) → Option (List ℕ)
+first_missing files [] = None
+first_missing files (name ∷ names) = or_missing (files name) name (first_missing files names)
+
+-- the contents of files that are there
+abbrev pub contents_in : Files → List (List ℕ) → List (List ℕ)
+contents_in files names = map (λ name. unwrap_or (files name) []) names
+
+-- a file that is missing comes before all else
+abbrev pub RespondsBut : Option (List ℕ) → Request → List (List ℕ) → Response → Type 0
+RespondsBut (Some name) request contents response = printed 3 (unread_line name) ≡ response
+RespondsBut None request contents response = Responds request contents response
+
+-- what a request comes to over these files
+abbrev pub RespondsOver : Files → Request → Response → Type 0
+RespondsOver files request response =
+    RespondsBut (first_missing files (names_of request)) request (contents_in files (names_of request)) response
+
+-- what a request may come to over a store: over its files, where it tells them, and else over any contents
+abbrev pub MayRespond : Option Files → Request → Response → Type 0
+MayRespond None request response = (contents : List (List ℕ)) × Responds request contents response
+MayRespond (Some files) request response = RespondsOver files request response
+
+-- what the words of a command may come to over a store
+abbrev pub ComesTo : StoreState → Option Request → Response → Type 0
+ComesTo store None response = ⊥
+ComesTo store (Some request) response = MayRespond store.told request response

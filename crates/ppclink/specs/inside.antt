@@ -1,0 +1,4 @@
+-- Words of private contracts.
+pub mod Commands
+pub mod Fetched
+pub mod Reports

@@ -1,0 +1,83 @@
+-- Why each report comes, and how the console takes it.
+use Rattle.std.specs.Prelude.{ℕ, ◌≡◌, ◌⊎◌, List, [], ◌++◌, Option}
+use Rattle.elf64_exec.specs.declared.layout.Segment.{Segment}
+use Rattle.power_machine.specs.declared.machine.Outcome.{Outcome}
+use Rattle.power_machine.specs.declared.machine.Outcome.TheVariants as outcome
+use Rattle.power_machine.specs.declared.world.Event.{Event}
+use Rattle.power_machine.specs.Start.{start_ranges, start_run}
+use Rattle.power_machine.specs.Steps.{NumberProgress, ReachesIn}
+use Rattle.ppc_outside.specs.Outside.{StoreState, ConsoleState, IsReplaced, ReplaceFails, IsUnchanged, Shows, ShowsPart}
+use Rattle.ppc_outside.specs.declared.outside.OutsideError.{OutsideError}
+use Rattle.ppc_outside.specs.declared.outside.OutsideError.TheVariants.{Failed, Memory}
+use Rattle.ppclink.specs.declared.report.Report.{Report}
+use Rattle.ppclink.specs.declared.report.Report.TheVariants.{Text, Written, Unwritten, NoMemory}
+use Rattle.ppclink.specs.Requests.{Request}
+use Rattle.ppclink.specs.Lines.{unread_line}
+use Rattle.ppclink.specs.Runs.{printed, Executes, event_lines, exit_line, left_line, budget_line, progress_response}
+use Rattle.ppclink.specs.Responses.{show_response, view_refusal}
+use Rattle.ppclink.specs.Statuses.{KeepsFiles, Says, HasWritten, HasNotWritten, IsOfResponse}
+
+-- why each report comes
+abbrev pub Causes : StoreState → StoreState → Option Request → Report → Type 0
+Causes old new found (Text status text) = Says old new found status text.items
+Causes old new found Written = HasWritten old new found
+Causes old new found Unwritten = HasNotWritten old new found
+Causes old new found NoMemory = KeepsFiles old new
+
+-- why a replace is reported so
+abbrev pub ReplaceReport : StoreState → StoreState → List ℕ → List ℕ → Report → Type 0
+ReplaceReport old new out image Written = IsReplaced old new out image
+ReplaceReport old new out image Unwritten = ReplaceFails old new out
+ReplaceReport old new out image NoMemory = IsUnchanged old new
+ReplaceReport old new out image (Text status text) = ⊥
+
+-- a text with a status, or no memory for it
+abbrev pub TextReport : (ℕ → List ℕ → Type 0) → Report → Type 0
+TextReport Is (Text status text) = Is status text.items
+TextReport Is NoMemory = Unit {0}
+TextReport Is Written = ⊥
+TextReport Is Unwritten = ⊥
+
+-- a file that was fetched is shown
+pub record ShowsFile (name b : List ℕ) (status : ℕ) (text : List ℕ) : Type 0 where
+  pub is : show_response name b (view_refusal b) ≡ printed status text
+
+-- the line for a file that wasn't fetched
+pub record SaysLine (name : List ℕ) (status : ℕ) (text : List ℕ) : Type 0 where
+  pub status_is : status ≡ 3
+  pub text_is : text ≡ unread_line name
+
+-- why a file that wasn't fetched is reported so
+abbrev pub UnreadReport : List ℕ → OutsideError → Report → Type 0
+UnreadReport name Failed report = TextReport (SaysLine name) report
+UnreadReport name Memory report = report ≡ NoMemory
+
+-- what is printed of a run, and its status, from its calls and its end
+abbrev pub SaysEnd : List Event → Outcome → ℕ → List ℕ → Type 0
+SaysEnd events (outcome.Exited code) status text = (status ≡ 0) × (text ≡ event_lines events ++ exit_line code)
+SaysEnd events (outcome.Left reason at) status text = (status ≡ 6) × (text ≡ event_lines events ++ left_line reason at)
+SaysEnd events outcome.Budget status text = (status ≡ 7) × (text ≡ event_lines events ++ budget_line)
+SaysEnd events outcome.Memory status text = ⊥
+
+-- a program with this input comes to this status and text in at most so many steps
+pub record RunSays (entry : ℕ) (segments : List Segment) (input : List ℕ) (budget status : ℕ) (text : List ℕ) : Type 0 where
+  pub progress : NumberProgress
+  pub reaches : ReachesIn (start_ranges segments) budget (start_run entry segments input []) progress
+  pub is : progress_response progress ≡ printed status text
+
+-- what was fetched for a run is executed
+pub record SaysRun (name file input : List ℕ) (budget : ℕ) (long : Option (List ℕ)) (status : ℕ) (text : List ℕ) : Type 0 where
+  pub status_is : IsOfResponse status
+  pub executes : Executes name file input budget long (printed status text)
+
+-- how the console takes a text that has a status, and the status that this gives
+abbrev pub Closes : ConsoleState → ConsoleState → ℕ → List ℕ → ℕ → Type 0
+Closes before after status text result =
+    ((result ≡ status) × Shows before after text) ⊎ ((result ≡ 4) × ShowsPart before after text) ⊎ ((result ≡ 5) × (after ≡ before))
+
+-- how the console takes a report
+abbrev pub Ends : ConsoleState → ConsoleState → Report → ℕ → Type 0
+Ends before after (Text status text) result = Closes before after status text.items result
+Ends before after Written result = (result ≡ 0) × (after ≡ before)
+Ends before after Unwritten result = (result ≡ 4) × (after ≡ before)
+Ends before after NoMemory result = (result ≡ 5) × (after ≡ before)
