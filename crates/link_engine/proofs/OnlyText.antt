@@ -1,5 +1,6 @@
 -- Where nothing is refused, the entry lies in the only kept section.
-use Rattle.std.proofs.Common.{◌≡◌, ◌≢◌, ◌<◌, ◌≤◌, ◌+◌, ◌-◌, ℕ, Bool, true, false, List, [], length, drop, length-drop, Option, Some, None, slice_get, sym, ap, ◌∙◌, refl, arith, subst, if◌then◌else◌}
+use Rattle.std.proofs.Common.{◌≡◌, ◌≢◌, ◌<◌, ◌≤◌, ◌+◌, ◌-◌, ℕ, Bool, true, false, List, [], length, drop, length-drop, Option, Some, None}
+use Rattle.std.proofs.Common.{slice_get, sym, ap, ◌∙◌, refl, arith, subst, if◌then◌else◌}
 use Rattle.std.specs.Prelude.{slice_range}
 use Rattle.std.proofs.lemmas.Bool.Decides.{nat_tests}
 use Rattle.std.proofs.lemmas.List.{length-take}
@@ -42,23 +43,28 @@ zeroed_is s is = ap is_text_sort is
 stored_text : (s : Sort) → is_text_sort s ≡ true → s ≢ Zeroed
 stored_text s text is = let none = zeroed_is s is in cc
 
-only_first : (first : Option (ℕ × ℕ)) (file : ℕ) (b : List ℕ) (i : ℕ) → is_text b i ≡ true → section_not_built first file b i ≡ None → first ≡ Some (file, i)
+only_first : (first : Option (ℕ × ℕ)) (file : ℕ) (b : List ℕ) (i : ℕ) → is_text b i ≡ true → section_not_built first file b i ≡ None →
+    first ≡ Some (file, i)
 unfolding section_not_built
 only_first first file b i text passes =
     let kept : is_kept_sort (sort_of b i) ≡ true = kept_text (sort_of b i) text in
     let here : is_at first file i ≡ true = grind (arith, passes, kept, text) in
     first_case first file i here
 
-first_is : (set : List (List ℕ)) (file i : ℕ) → not_built set ≡ None → file < length set → i < e_shnum (file_at set file) → is_text (file_at set file) i ≡ true → first_kept set ≡ Some (file, i)
+first_is : (set : List (List ℕ)) (file i : ℕ) → not_built set ≡ None → file < length set → i < e_shnum (file_at set file) →
+    is_text (file_at set file) i ≡ true → first_kept set ≡ Some (file, i)
 unfolding not_built_at
 first_is set file i built below within text =
     let b = file_at set file in
     let this : not_built_at set file ≡ None = walk_none (not_built_at set) 0 (length set) file built (omega arith) (omega arith) in
-    let sections = (both_none (first_from (section_not_built (first_kept set) file b) 0 (e_shnum b)) (first_from (symbol_not_built file b) 1 (symbol_count b - 1)) this).0 in
-    let passes : section_not_built (first_kept set) file b i ≡ None = walk_none (section_not_built (first_kept set) file b) 0 (e_shnum b) i sections (omega arith) (omega arith) in
+    let sections = (both_none (first_from (section_not_built (first_kept set) file b) 0 (e_shnum b))
+    (first_from (symbol_not_built file b) 1 (symbol_count b - 1)) this).0 in
+    let passes : section_not_built (first_kept set) file b i ≡ None =
+    walk_none (section_not_built (first_kept set) file b) 0 (e_shnum b) i sections (omega arith) (omega arith) in
     only_first (first_kept set) file b i text passes
 
-length_case : (b : List ℕ) (i : ℕ) (stored : Bool) → length (if stored then slice_range b (sh_offset b i) (sh_offset b i + sh_size b i) else []) ≤ length b
+length_case : (b : List ℕ) (i : ℕ) (stored : Bool) →
+    length (if stored then slice_range b (sh_offset b i) (sh_offset b i + sh_size b i) else []) ≤ length b
 length_case b i false = omega arith
 length_case b i true =
     let taken = length-take (sh_offset b i + sh_size b i - sh_offset b i) (drop (sh_offset b i) b) in
@@ -73,7 +79,8 @@ length_bytes b i = length_case b i (has_bytes b i)
 length_file : (file : ℕ) (b : List ℕ) → file_refusal file b ≡ None → length b ≤ 0x10000000
 unfolding file_refusal
 length_file file b fit =
-    let short = (both_none (length_refusal file b) (fault_refusal file b orelse (sections_refusal file b orelse symbols_refusal file b)) fit).0 in
+    let short = (both_none (length_refusal file b) (fault_refusal file b orelse (sections_refusal file b orelse symbols_refusal file b))
+    fit).0 in
     grind (arith, nat_tests, short)
 
 -- a section is the only one that is kept, and an offset is in it
@@ -84,7 +91,8 @@ pub record IsOnlyText (set : List (List ℕ)) (offset : ℕ) (at : ℕ × ℕ) :
   pub below : offset < length (section_bytes (file_at set at.0) at.1)
   pub limit : length (section_bytes (file_at set at.0) at.1) ≤ 0x10000000
 
-only_place : (set : List (List ℕ)) (place : CodePlace) (file section : ℕ) → set_refusal set ≡ None → not_built set ≡ None → IsInstructionAt set place file section →
+only_place : (set : List (List ℕ)) (place : CodePlace) (file section : ℕ) → set_refusal set ≡ None → not_built set ≡ None →
+    IsInstructionAt set place file section →
     IsOnlyText set place.offset (file, section)
 only_place set place file section whole built entered =
     let b = file_at set file in
@@ -128,7 +136,8 @@ only_text set place place' file section at whole built inside same found =
     subst (IsOnlyText set place.offset) this (only_place set place file section whole built inside)
 
 -- the number of that section is one of a text section
-pub numbered : (set : List (List ℕ)) (place place' : CodePlace) (file section : ℕ) → IsInstructionAt set place file section → place' ≡ place → place'.section < length (text_sections set)
+pub numbered : (set : List (List ℕ)) (place place' : CodePlace) (file section : ℕ) → IsInstructionAt set place file section →
+    place' ≡ place → place'.section < length (text_sections set)
 numbered set place place' file section inside same =
     let lies = inside.lies in
     let below = text_index_within set file section lies.file_in lies.within lies.text in
@@ -136,11 +145,14 @@ numbered set place place' file section inside same =
     omega (arith, below, here, lies.index)
 
 -- the bytes of that section, as they were read
-pub bytes_are : (set set' : List (List ℕ)) (at : ℕ × ℕ) (b text : List ℕ) → set' ≡ set → b ≡ file_at set' at.0 → text ≡ section_bytes b at.1 → text ≡ section_bytes (file_at set at.0) at.1
-bytes_are set set' at b text same view is = is ∙ ap (λ (f : List ℕ). section_bytes f at.1) (view ∙ ap (λ (s : List (List ℕ)). file_at s at.0) same)
+pub bytes_are : (set set' : List (List ℕ)) (at : ℕ × ℕ) (b text : List ℕ) → set' ≡ set → b ≡ file_at set' at.0 →
+    text ≡ section_bytes b at.1 → text ≡ section_bytes (file_at set at.0) at.1
+bytes_are set set' at b text same view is = is
+    ∙ ap (λ (f : List ℕ). section_bytes f at.1) (view ∙ ap (λ (s : List (List ℕ)). file_at s at.0) same)
 
 -- where files that aren't refused are entered
-pub entered : (set contents : List (List ℕ)) (entry : List ℕ) (r : ResolvedFiles) → set ≡ contents → set_refusal contents ≡ None → resolve_refusal set entry ≡ None →
+pub entered : (set contents : List (List ℕ)) (entry : List ℕ) (r : ResolvedFiles) → set ≡ contents → set_refusal contents ≡ None →
+    resolve_refusal set entry ≡ None →
     r.files ≡ set → r.entry ≡ entry_place set entry → IsEntered r.files r.entry
 entered set contents entry r same whole resolved is place =
     let passes = (both_none (duplicate_refusal set) (entry_refusal set entry) resolved).1 in

@@ -1,11 +1,13 @@
 -- What a link comes to: it is refused, or it gives an executable.
 use Rattle.std.specs.Prelude.{ℕ, ◌+◌, ◌≡◌, List, [], ◌∷◌, length, Option, Some, None, Result, Ok, Err}
+use Rattle.elf64_exec.specs.declared.memory_map.TheConstants.{IMAGE_START, TEXT}
 use Rattle.elf64_exec.specs.declared.layout.Segment.{Segment}
 use Rattle.elf64_exec.specs.Executable.{executable}
 use Rattle.elf64_records.specs.First.{◌orelse◌}
 use Rattle.object_set.specs.Refusals.{set_refusal}
 use Rattle.object_set.specs.declared.refusal.Refusal.{Refusal}
 use Rattle.symbol_table.specs.Targets.{entry_place, resolve_refusal}
+use Rattle.link_engine.specs.declared.files.Linked.{Linked}
 use Rattle.link_engine.specs.Options.{LinkOptions}
 use Rattle.link_engine.specs.Stage.{not_built, text_of}
 
@@ -16,13 +18,13 @@ first_refusal files options =
     orelse (resolve_refusal files options.entry
     orelse not_built files)
 
--- text is loaded at 0x10000000, to be read and executed
+-- text is loaded where an image starts, to be read and executed
 abbrev pub text_segment : List ℕ → Segment
-text_segment text = record { flags = 5; address = 0x10000000; bytes = text; size = length text }
+text_segment text = record { flags = TEXT; address = IMAGE_START; bytes = text; size = length text }
 
 -- the executable that loads a text and starts so far into it
 abbrev pub image_at : ℕ → List ℕ → List ℕ
-image_at start text = executable (0x10000000 + start) (text_segment text ∷ [])
+image_at start text = executable (IMAGE_START + start) (text_segment text ∷ [])
 
 -- the executable of files: it starts at the global entry point of what the entry's name stands for
 abbrev pub image_of : List (List ℕ) → LinkOptions → List ℕ
@@ -40,6 +42,13 @@ LinkOutcome = Result (List ℕ) Refusal
 abbrev pub LinksTo : List (List ℕ) → LinkOptions → LinkOutcome → Type 0
 LinksTo files options (Err refusal) = first_refusal files options ≡ Some refusal
 LinksTo files options (Ok image) = GivesImage files options image
+
+-- no call, stub or slot is counted
+pub record CountsNothing (linked : Linked) : Type 0 where
+  pub sites : linked.sites ≡ 0
+  pub far : linked.far ≡ 0
+  pub stub_bytes : linked.stub_bytes ≡ 0
+  pub folds : linked.folds ≡ 0
 
 -- each link comes to something
 abbrev pub LinksComeToSomething : Type 0

@@ -4,7 +4,7 @@ ghost use Rattle.object_set.specs.Files.{contents_of};
 ghost use Rattle.object_set.specs.Refusals.{Answers, set_refusal};
 ghost use Rattle.link_engine.specs.Stage.{not_built, text_of, IsEntered};
 ghost use Rattle.link_engine.specs.Options.{InRange};
-ghost use Rattle.link_engine.specs.Link.{LinksTo, first_refusal, image_of, image_at};
+ghost use Rattle.link_engine.specs.Link.{LinksTo, CountsNothing, first_refusal, image_of, image_at};
 
 use crate::files::{Linked, Options};
 use crate::stage::check_built;
@@ -82,7 +82,7 @@ pub fn link<L: Ledger>(
         (r ≡ Refusal.Memory) ⊎ LinksTo (contents_of files.now) options.now (Err r)) }
     ensures linked { IfOk result (λ l.
         LinksTo (contents_of files.now) options.now (Ok l.image.items)) }
-    ensures counts { IfOk result (λ l. (l.sites ≡ 0) × (l.far ≡ 0) × (l.stub_bytes ≡ 0) × (l.folds ≡ 0)) }
+    ensures counts { IfOk result CountsNothing }
     ensures steps { steps.new ≡ steps.old }
 {
     let image = image_of(alloc, files, options)?;

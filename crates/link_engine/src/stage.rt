@@ -5,7 +5,8 @@ ghost use Rattle.elf64_records.specs.FileHeader.{e_shnum};
 ghost use Rattle.elf64_records.specs.Symbols.{symbol_count};
 ghost use Rattle.object_set.specs.Files.{file_at};
 ghost use Rattle.object_set.specs.Symbols.{is_common};
-ghost use Rattle.link_engine.specs.Stage.{first_kept_in, first_kept, needs_more, section_not_built, symbol_not_built, not_built_at, not_built};
+ghost use Rattle.link_engine.specs.Stage.{first_kept_in, first_kept, needs_more, section_not_built, symbol_not_built, not_built_at};
+ghost use Rattle.link_engine.specs.Stage.{not_built};
 
 use object_set::{ObjectSet, Refusal, Sort};
 
@@ -60,7 +61,8 @@ fn needs_more(set: &ObjectSet, first: Option<(u32, u32)>, file: u32, i: u32) -> 
 #[tactic(auto, using(elf64_records::specs::laws::First::walk_step, elf64_records::specs::laws::First::walk_end), unfolding(crate::specs::Stage::section_not_built))]
 fn check_sections(set: &ObjectSet, first: Option<(u32, u32)>, file: u32) -> Result<(), Refusal>
     requires { file < length set.now }
-    ensures { let b = file_at set.now file in Refuses result (first_from (section_not_built first file b) 0 (e_shnum b)) }
+    ensures { let b = file_at set.now file in
+        Refuses result (first_from (section_not_built first file b) 0 (e_shnum b)) }
 {
     for i in 0..set.view(file).section_count() {
         if needs_more(set, first, file, i) {
@@ -84,7 +86,8 @@ fn is_common(set: &ObjectSet, file: u32, j: u32) -> bool
 #[tactic(auto, using(elf64_records::specs::laws::First::walk_step, elf64_records::specs::laws::First::walk_end), unfolding(crate::specs::Stage::symbol_not_built))]
 fn check_symbols(set: &ObjectSet, file: u32) -> Result<(), Refusal>
     requires { file < length set.now }
-    ensures { let b = file_at set.now file in Refuses result (first_from (symbol_not_built file b) 1 (symbol_count b - 1)) }
+    ensures { let b = file_at set.now file in
+        Refuses result (first_from (symbol_not_built file b) 1 (symbol_count b - 1)) }
 {
     for j in 1..set.view(file).symbol_count() {
         if is_common(set, file, j) {

@@ -1,5 +1,6 @@
 -- Names, each of which stands once.
-use Rattle.std.proofs.Common.{◌≡◌, ◌≢◌, ℕ, ◌<◌, zero, suc, length-append, if◌then◌else◌, Bool, true, false, List, [], ◌∷◌, ◌++◌, ◌||◌, length, Some, slice_get, slice_set, map, sym, ap, ◌∙◌, refl, arith}
+use Rattle.std.proofs.Common.{◌≡◌, ◌≢◌, ℕ, ◌<◌, zero, suc, length-append, if◌then◌else◌, Bool, true, false, List, [], ◌∷◌, ◌++◌, ◌||◌}
+use Rattle.std.proofs.Common.{length, Some, slice_get, slice_set, map, sym, ap, ◌∙◌, refl, arith}
 use Rattle.std.specs.List.{list_any, position_or_len}
 use Rattle.std.proofs.Common.{cond, not, ◌+◌}
 use Rattle.std.specs.Str.{bytes_eq}
@@ -41,7 +42,8 @@ found_old name names k other false any found =
     let left : k < length names = omega (arith, simp length-append at within) in
     here name names k (sym (get_left names (name ∷ []) k left) ∙ found)
 
-pub old_name : (name : List ℕ) (names : List (List ℕ)) (k : ℕ) → k ≢ length names → slice_get (with_name names name) k ≡ Some name → list_any (bytes_eq name) names ≡ true
+pub old_name : (name : List ℕ) (names : List (List ℕ)) (k : ℕ) → k ≢ length names → slice_get (with_name names name) k ≡ Some name →
+    list_any (bytes_eq name) names ≡ true
 old_name name names k other found = found_old name names k other (list_any (bytes_eq name) names) refl found
 
 pub or_false : (p q : Bool) → (p || q) ≡ false → (p ≡ false) × (q ≡ false)
@@ -73,14 +75,16 @@ once_more name (x ∷ names) new (More _ _ lone once) =
     let last : list_any (bytes_eq x) (name ∷ []) ≡ false = ap (λ b. b || false) (flip name x both.0) in
     More x (names ++ name ∷ []) (any_append (bytes_eq x) names (name ∷ []) lone last) (once_more name names both.1 once)
 
-once_case : (names : List (List ℕ)) (name : List ℕ) (b : Bool) → list_any (bytes_eq name) names ≡ b → IsOnce names → IsOnce (if b then names else names ++ name ∷ [])
+once_case : (names : List (List ℕ)) (name : List ℕ) (b : Bool) → list_any (bytes_eq name) names ≡ b → IsOnce names →
+    IsOnce (if b then names else names ++ name ∷ [])
 once_case names name true is once = once
 once_case names name false is once = once_more name names is once
 
 pub once_with_name : (names : List (List ℕ)) (name : List ℕ) → IsOnce names → IsOnce (with_name names name)
 once_with_name names name once = once_case names name (list_any (bytes_eq name) names) refl once
 
-absent_case : (x name : List ℕ) (names : List (List ℕ)) (k : ℕ) (t : Bool) → bytes_eq x name ≡ t → list_any (bytes_eq x) names ≡ false → slice_get names k ≡ Some name → bytes_eq x name ≡ false
+absent_case : (x name : List ℕ) (names : List (List ℕ)) (k : ℕ) (t : Bool) → bytes_eq x name ≡ t → list_any (bytes_eq x) names ≡ false →
+    slice_get names k ≡ Some name → bytes_eq x name ≡ false
 absent_case x name names k false is none found = is
 absent_case x name names k true is none found =
     let same : x ≡ name = same_bytes x name is in
@@ -89,7 +93,8 @@ absent_case x name names k true is none found =
     cc
 
 -- a name that doesn't stand among others is none of them
-pub absent : (x name : List ℕ) (names : List (List ℕ)) (k : ℕ) → list_any (bytes_eq x) names ≡ false → slice_get names k ≡ Some name → bytes_eq x name ≡ false
+pub absent : (x name : List ℕ) (names : List (List ℕ)) (k : ℕ) → list_any (bytes_eq x) names ≡ false → slice_get names k ≡ Some name →
+    bytes_eq x name ≡ false
 absent x name names k none found = absent_case x name names k (bytes_eq x name) refl none found
 
 module _ {X : Type 0} (f g : List ℕ → X) (name : List ℕ) (same : (other : List ℕ) → bytes_eq other name ≡ false → g other ≡ f other) where
@@ -102,7 +107,8 @@ module _ {X : Type 0} (f g : List ℕ → X) (name : List ℕ) (same : (other : 
       cc
 
   -- where one name's value changes
-  pub changed : (names : List (List ℕ)) (k : ℕ) → IsOnce names → slice_get names k ≡ Some name → map g names ≡ slice_set (map f names) k (g name)
+  pub changed : (names : List (List ℕ)) (k : ℕ) → IsOnce names → slice_get names k ≡ Some name →
+      map g names ≡ slice_set (map f names) k (g name)
   changed [] k once found = cc
   changed (x ∷ names) zero (More _ _ lone once) found =
       let this : x ≡ name = cc in
@@ -115,7 +121,8 @@ module _ {X : Type 0} (f g : List ℕ → X) (name : List ℕ) (same : (other : 
       let rest = changed names k once found in
       cc
 
-position_case : (name x : List ℕ) (names : List (List ℕ)) (k : ℕ) (b : Bool) → bytes_eq name x ≡ b → b ≡ false → position_or_len (bytes_eq name) names ≡ k →
+position_case : (name x : List ℕ) (names : List (List ℕ)) (k : ℕ) (b : Bool) → bytes_eq name x ≡ b → b ≡ false →
+    position_or_len (bytes_eq name) names ≡ k →
     position_or_len (bytes_eq name) (x ∷ names) ≡ suc k
 position_case name x names k b is none rest =
     let differs : bytes_eq name x ≡ false = is ∙ none in
@@ -124,11 +131,13 @@ position_case name x names k b is none rest =
     omega (arith, step, rest)
 
 -- where each name stands once, a name's first place is its place
-pub position_once : (names : List (List ℕ)) (k : ℕ) (name : List ℕ) → IsOnce names → slice_get names k ≡ Some name → position_or_len (bytes_eq name) names ≡ k
+pub position_once : (names : List (List ℕ)) (k : ℕ) (name : List ℕ) → IsOnce names → slice_get names k ≡ Some name →
+    position_or_len (bytes_eq name) names ≡ k
 position_once [] k name once found = cc
 position_once (x ∷ names) zero name once found =
     let this : x ≡ name = cc in
     let same : bytes_eq name x ≡ true = ap (λ n. bytes_eq name n) this ∙ bytes_same name in
     ap (λ (t : Bool). cond (not t) (1 + position_or_len (bytes_eq name) names) 0) same
 position_once (x ∷ names) (suc k) name (More _ _ lone once) found =
-    position_case name x names k (bytes_eq name x) refl (flip x name (absent x name names k lone found)) (position_once names k name once found)
+    position_case name x names k (bytes_eq name x) refl (flip x name (absent x name names k lone found))
+    (position_once names k name once found)

@@ -1,5 +1,6 @@
 -- The numbers of names.
-use Rattle.std.proofs.Common.{◌≡◌, ◌<◌, ℕ, ◌+◌, zero, suc, Bool, true, false, if◌then◌else◌, List, [], ◌∷◌, ◌++◌, Some, slice_get, sym, ap, ◌∙◌, add-one, subst}
+use Rattle.std.proofs.Common.{◌≡◌, ◌<◌, ℕ, ◌+◌, zero, suc, Bool, true, false, if◌then◌else◌, List, [], ◌∷◌, ◌++◌, Some, slice_get, sym}
+use Rattle.std.proofs.Common.{ap, ◌∙◌, add-one, subst}
 use Rattle.std.specs.List.{slice_index_or}
 use Rattle.std.proofs.lemmas.List.{append_assoc}
 use Rattle.std.specs.List.{list_any}
@@ -17,7 +18,8 @@ pub number_kept : (old new : List (List ℕ)) (b : List ℕ) (j k : ℕ) → Kee
 number_kept old new b j k keeps has = λ external. keeps k _ (has external)
 
 -- one symbol more of a file
-pub numbers_more : (old new : List (List ℕ)) (b : List ℕ) (n : ℕ) (row : List ℕ) (k : ℕ) → AreNameNumbers old b n row → KeepsNumbers old new →
+pub numbers_more : (old new : List (List ℕ)) (b : List ℕ) (n : ℕ) (row : List ℕ) (k : ℕ) → AreNameNumbers old b n row →
+    KeepsNumbers old new →
     HasNumber new b n k → AreNameNumbers new b (n + 1) (row ++ k ∷ [])
 numbers_more old new b n row k are keeps this =
     row_more (HasNumber new b) n row k
@@ -25,7 +27,8 @@ numbers_more old new b n row k are keeps this =
 
 -- one file more
 pub all_numbers_more : (old new : List (List ℕ)) (files : List (List ℕ)) (n : ℕ) (rows : List (List ℕ)) (row : List ℕ) →
-    AreAllNameNumbers old files n rows → KeepsNumbers old new → AreFileNumbers new files n row → AreAllNameNumbers new files (n + 1) (rows ++ row ∷ [])
+    AreAllNameNumbers old files n rows → KeepsNumbers old new → AreFileNumbers new files n row →
+    AreAllNameNumbers new files (n + 1) (rows ++ row ∷ [])
 all_numbers_more old new files n rows row are keeps this =
     let count = λ (file : ℕ). symbol_count (file_at files file) in
     let before = λ (file : ℕ). HasNumber old (file_at files file) in
@@ -60,7 +63,8 @@ keeps_with_name names new name is =
     subst (KeepsNumbers names) (sym is) (keeps_case names name (list_any (bytes_eq name) names))
 
 -- a symbol that other files see, as a list
-pub one_external : (file : ℕ) (b : List ℕ) (j : ℕ) (s : External) → is_local b j ≡ false → s ≡ external_symbol file b j → s ∷ [] ≡ external_at file b j
+pub one_external : (file : ℕ) (b : List ℕ) (j : ℕ) (s : External) → is_local b j ≡ false → s ≡ external_symbol file b j →
+    s ∷ [] ≡ external_at file b j
 one_external file b j s external is =
     ap (λ (t : External). t ∷ []) is
     ∙ sym (ap (λ (l : Bool). if l then [] else external_symbol file b j ∷ []) external)

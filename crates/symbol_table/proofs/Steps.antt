@@ -1,5 +1,6 @@
 -- What a symbol more changes.
-use Rattle.std.proofs.Common.{◌≡◌, ℕ, suc, ◌&&◌, Bool, true, false, List, [], ◌∷◌, ◌++◌, Option, Some, slice_get, max, sym, ap, ◌∙◌, refl, arith, if◌then◌else◌}
+use Rattle.std.proofs.Common.{◌≡◌, ℕ, suc, ◌&&◌, Bool, true, false, List, [], ◌∷◌, ◌++◌, Option, Some, slice_get, max, sym, ap, ◌∙◌, refl}
+use Rattle.std.proofs.Common.{arith, if◌then◌else◌}
 use Rattle.std.specs.List.{list_any}
 use Rattle.std.specs.Str.{bytes_eq}
 use Rattle.std.specs.Option.{option_map}
@@ -13,7 +14,8 @@ use Rattle.symbol_table.specs.declared.role.Role.TheVariants as role
 use Rattle.symbol_table.specs.declared.candidates.Candidates.{Candidates}
 use Rattle.symbol_table.specs.declared.candidates.CommonSize.{CommonSize}
 use Rattle.symbol_table.specs.Externals.{External, names_of, with_name}
-use Rattle.symbol_table.specs.Candidates.{is_global_role, is_common_role, is_weak_role, bearing, id_of, largest, common_of, candidates_of, no_candidates}
+use Rattle.symbol_table.specs.Candidates.{is_global_role, is_common_role, is_weak_role, bearing, id_of, largest, common_of, candidates_of}
+use Rattle.symbol_table.specs.Candidates.{no_candidates}
 use Rattle.symbol_table.specs.inside.Names.{with_candidate, larger_common}
 
 -- what lists of global definitions, commons and weak definitions say
@@ -31,15 +33,18 @@ sized size align = record { size = size; align = align }
 size_is : (a b c d : ℕ) → a ≡ b → c ≡ d → sized a c ≡ sized b d
 size_is a b c d p q = cc
 
-pub largest-more : (xs : List External) (s : External) → largest (xs ++ s ∷ []) ≡ sized (max (largest xs).size s.size) (max (largest xs).align s.value)
+pub largest-more : (xs : List External) (s : External) →
+    largest (xs ++ s ∷ []) ≡ sized (max (largest xs).size s.size) (max (largest xs).align s.value)
 largest-more [] s =
     let a : max s.size 0 ≡ max 0 s.size = grind arith in
     let b : max s.value 0 ≡ max 0 s.value = grind arith in
     size_is (max s.size 0) (max 0 s.size) (max s.value 0) (max 0 s.value) a b
 largest-more (x ∷ xs) s =
     let more = largest-more xs s in
-    let size : max x.size (largest (xs ++ s ∷ [])).size ≡ max (max x.size (largest xs).size) s.size = ap (λ (p : CommonSize). max x.size p.size) more ∙ grind arith in
-    let align : max x.value (largest (xs ++ s ∷ [])).align ≡ max (max x.value (largest xs).align) s.value = ap (λ (p : CommonSize). max x.value p.align) more ∙ grind arith in
+    let size : max x.size (largest (xs ++ s ∷ [])).size ≡ max (max x.size (largest xs).size) s.size =
+    ap (λ (p : CommonSize). max x.size p.size) more ∙ grind arith in
+    let align : max x.value (largest (xs ++ s ∷ [])).align ≡ max (max x.value (largest xs).align) s.value =
+    ap (λ (p : CommonSize). max x.value p.align) more ∙ grind arith in
     size_is _ _ _ _ size align
 
 pub with_global : (g c w : List External) (s : External) → summary (g ++ s ∷ []) c w ≡ with_candidate (summary g c w) role.Global s
@@ -80,7 +85,8 @@ module _ (name : List ℕ) (xs : List External) (s : External) where
   alone : (does : Role → Bool) (same : Bool) (r : Role) → bytes_eq name s.name ≡ same → s.role ≡ r → (same && does r) ≡ false →
       bearing does name (xs ++ s ∷ []) ≡ bearing does name xs
   alone does same r bears plays passes =
-      bearing_more does same r bears plays ∙ ap (λ (b : Bool). bearing does name xs ++ (if b then s ∷ [] else [])) passes ∙ nil_right (bearing does name xs)
+      bearing_more does same r bears plays ∙ ap (λ (b : Bool). bearing does name xs ++ (if b then s ∷ [] else [])) passes
+      ∙ nil_right (bearing does name xs)
 
   more : (does : Role → Bool) (r : Role) → bytes_eq name s.name ≡ true → s.role ≡ r → does r ≡ true →
       bearing does name (xs ++ s ∷ []) ≡ bearing does name xs ++ s ∷ []
@@ -90,20 +96,26 @@ module _ (name : List ℕ) (xs : List External) (s : External) where
   -- of another name nothing more is said
   pub other_name : bytes_eq name s.name ≡ false → candidates_of (xs ++ s ∷ []) name ≡ candidates_of xs name
   other_name other =
-      three (alone is_global_role false s.role other refl refl) (alone is_common_role false s.role other refl refl) (alone is_weak_role false s.role other refl refl)
+      three (alone is_global_role false s.role other refl refl) (alone is_common_role false s.role other refl refl)
+      (alone is_weak_role false s.role other refl refl)
 
-  role_case : (r : Role) → bytes_eq name s.name ≡ true → s.role ≡ r → candidates_of (xs ++ s ∷ []) name ≡ with_candidate (candidates_of xs name) r s
+  role_case : (r : Role) → bytes_eq name s.name ≡ true → s.role ≡ r →
+      candidates_of (xs ++ s ∷ []) name ≡ with_candidate (candidates_of xs name) r s
   role_case role.Global bears plays =
-      three (more is_global_role role.Global bears plays refl) (alone is_common_role true role.Global bears plays refl) (alone is_weak_role true role.Global bears plays refl)
+      three (more is_global_role role.Global bears plays refl) (alone is_common_role true role.Global bears plays refl)
+      (alone is_weak_role true role.Global bears plays refl)
       ∙ with_global (bearing is_global_role name xs) (bearing is_common_role name xs) (bearing is_weak_role name xs) s
   role_case role.Common bears plays =
-      three (alone is_global_role true role.Common bears plays refl) (more is_common_role role.Common bears plays refl) (alone is_weak_role true role.Common bears plays refl)
+      three (alone is_global_role true role.Common bears plays refl) (more is_common_role role.Common bears plays refl)
+      (alone is_weak_role true role.Common bears plays refl)
       ∙ with_common (bearing is_global_role name xs) (bearing is_common_role name xs) (bearing is_weak_role name xs) s
   role_case role.Weak bears plays =
-      three (alone is_global_role true role.Weak bears plays refl) (alone is_common_role true role.Weak bears plays refl) (more is_weak_role role.Weak bears plays refl)
+      three (alone is_global_role true role.Weak bears plays refl) (alone is_common_role true role.Weak bears plays refl)
+      (more is_weak_role role.Weak bears plays refl)
       ∙ with_weak (bearing is_global_role name xs) (bearing is_common_role name xs) (bearing is_weak_role name xs) s
   role_case role.Reference bears plays =
-      three (alone is_global_role true role.Reference bears plays refl) (alone is_common_role true role.Reference bears plays refl) (alone is_weak_role true role.Reference bears plays refl)
+      three (alone is_global_role true role.Reference bears plays refl) (alone is_common_role true role.Reference bears plays refl)
+      (alone is_weak_role true role.Reference bears plays refl)
 
   -- of its own name what it says
   pub same_name_more : bytes_eq name s.name ≡ true → candidates_of (xs ++ s ∷ []) name ≡ with_candidate (candidates_of xs name) s.role s
@@ -121,7 +133,8 @@ once_from acc (x ∷ xs) once = once_from (with_name acc x.name) xs (once_with_n
 pub once_names : (xs : List External) → IsOnce (names_of xs)
 once_names xs = once_from [] xs Empty
 
-found_case : (x y : List ℕ) (names : List (List ℕ)) (b : Bool) → (list_any (bytes_eq x) names ≡ true → (k : ℕ) × (slice_get names k ≡ Some x)) →
+found_case : (x y : List ℕ) (names : List (List ℕ)) (b : Bool) →
+    (list_any (bytes_eq x) names ≡ true → (k : ℕ) × (slice_get names k ≡ Some x)) →
     bytes_eq x y ≡ b → (b || list_any (bytes_eq x) names) ≡ true → (k : ℕ) × (slice_get (y ∷ names) k ≡ Some x)
 found_case x y names true rest is some = (0, ap Some (sym (same_bytes x y is)))
 found_case x y names false rest is some = let later = rest some in (suc later.0, later.1)
@@ -130,10 +143,12 @@ found_in : (x : List ℕ) (names : List (List ℕ)) → list_any (bytes_eq x) na
 found_in x [] some = cc
 found_in x (y ∷ names) some = found_case x y names (bytes_eq x y) (found_in x names) refl some
 
-absent_any : (name other : List ℕ) (names : List (List ℕ)) → list_any (bytes_eq name) names ≡ false → list_any (bytes_eq other) names ≡ true → bytes_eq name other ≡ false
+absent_any : (name other : List ℕ) (names : List (List ℕ)) → list_any (bytes_eq name) names ≡ false →
+    list_any (bytes_eq other) names ≡ true → bytes_eq name other ≡ false
 absent_any name other names none some = let found = found_in other names some in absent name other names found.0 none found.1
 
-ends : (acc : List (List ℕ)) (name other : List ℕ) → list_any (bytes_eq name) (acc ++ other ∷ []) ≡ false → (list_any (bytes_eq name) acc ≡ false) × (bytes_eq name other ≡ false)
+ends : (acc : List (List ℕ)) (name other : List ℕ) → list_any (bytes_eq name) (acc ++ other ∷ []) ≡ false →
+    (list_any (bytes_eq name) acc ≡ false) × (bytes_eq name other ≡ false)
 ends [] name other none = (refl, (or_false (bytes_eq name other) false none).0)
 ends (x ∷ acc) name other none =
     let both = or_false (bytes_eq name x) (list_any (bytes_eq name) (acc ++ other ∷ [])) none in
@@ -141,12 +156,14 @@ ends (x ∷ acc) name other none =
     (ap (λ b. b || list_any (bytes_eq name) acc) both.0 ∙ rest.0, rest.1)
 
 -- nothing is said of a name that no symbol bears
-stays_case : (acc : List (List ℕ)) (name other : List ℕ) (b : Bool) → list_any (bytes_eq other) acc ≡ b → list_any (bytes_eq name) (if b then acc else acc ++ other ∷ []) ≡ false →
+stays_case : (acc : List (List ℕ)) (name other : List ℕ) (b : Bool) → list_any (bytes_eq other) acc ≡ b →
+    list_any (bytes_eq name) (if b then acc else acc ++ other ∷ []) ≡ false →
     (list_any (bytes_eq name) acc ≡ false) × (bytes_eq name other ≡ false)
 stays_case acc name other true is none = (none, absent_any name other acc none is)
 stays_case acc name other false is none = ends acc name other none
 
-unseen_from : (name : List ℕ) (acc : List (List ℕ)) (xs : List External) → list_any (bytes_eq name) (fold (λ names (t : External). with_name names t.name) acc xs) ≡ false →
+unseen_from : (name : List ℕ) (acc : List (List ℕ)) (xs : List External) →
+    list_any (bytes_eq name) (fold (λ names (t : External). with_name names t.name) acc xs) ≡ false →
     (list_any (bytes_eq name) acc ≡ false) × ((does : Role → Bool) → bearing does name xs ≡ [])
 unseen_from name acc [] none = (none, λ does. refl)
 unseen_from name acc (x ∷ xs) none =

@@ -1,6 +1,7 @@
 -- What a name stands for (ELF64, "Symbol Table": STB_GLOBAL, STB_WEAK and SHN_COMMON): its one GLOBAL definition; else the common, with
 -- the largest size and the largest alignment; else the first WEAK definition; else nothing.
-use Rattle.std.specs.Prelude.{ℕ, Bool, true, false, List, [], ◌∷◌, ◌&&◌, Option, Some, None, max, map, filter, filter_map, take, length, slice_get}
+use Rattle.std.specs.Prelude.{ℕ, Bool, true, false, List, [], ◌∷◌, ◌&&◌, Option, Some, None, max, map, filter, filter_map, take, length}
+use Rattle.std.specs.Prelude.{slice_get}
 use Rattle.std.specs.List.{slice_index_or, position_or_len}
 use Rattle.std.specs.Option.{option_map}
 use Rattle.std.specs.Str.{bytes_eq}

@@ -1,5 +1,6 @@
 -- Where records and the entry go (ELFv2 ABI, 3.4 "Symbol Table"; ELF64, "Relocation": S + A).
-use Rattle.std.specs.Prelude.{◌≡◌, ℕ, ℤ, ◌+◌, ◌%◌, ◌^◌, Bool, true, false, List, ◌||◌, ◌&&◌, ◌==◌, ◌<◌, Option, Some, None, length, is_some, unwrap_or, nat_lt, if◌then◌else◌}
+use Rattle.std.specs.Prelude.{◌≡◌, ℕ, ℤ, ◌+◌, ◌%◌, ◌^◌, Bool, true, false, List, ◌||◌, ◌&&◌, ◌==◌, ◌<◌, Option, Some, None, length}
+use Rattle.std.specs.Prelude.{is_some, unwrap_or, nat_lt, if◌then◌else◌}
 use Rattle.elf64_records.specs.Sections.{sh_size}
 use Rattle.elf64_records.specs.Symbols.{st_value, symbol_count}
 use Rattle.object_set.specs.Files.{file_at}
@@ -102,7 +103,8 @@ pub record IsPlaced (files : List (List ℕ)) (file number : ℕ) : Type 0 where
 
 -- why an entry's name is refused
 abbrev pub entry_fault : List (List ℕ) → List ℕ → Resolution → Option Refusal
-entry_fault files entry (resolution.Definition s) = if is_some (instruction_at files s.file s.symbol) then None else Some (EntryNotCode entry)
+entry_fault files entry (resolution.Definition s) =
+    if is_some (instruction_at files s.file s.symbol) then None else Some (EntryNotCode entry)
 entry_fault files entry (resolution.Common common) = Some (EntryNotCode entry)
 entry_fault files entry resolution.Undefined = Some (NoEntry entry)
 

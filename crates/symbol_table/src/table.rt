@@ -4,10 +4,12 @@ ghost use Rattle.elf64_records.specs.Symbols.{symbol_count};
 ghost use Rattle.object_set.specs.Files.{file_at};
 ghost use Rattle.object_set.specs.Refusals.{set_refusal, Answers};
 ghost use Rattle.object_set.specs.Symbols.{is_local};
-ghost use Rattle.symbol_table.specs.Externals.{External, external_symbol, external_at, external_walk, external_symbols, names_of, with_name};
+ghost use Rattle.symbol_table.specs.Externals.{External, external_symbol, external_at, external_walk, external_symbols, names_of};
+ghost use Rattle.symbol_table.specs.Externals.{with_name};
 ghost use Rattle.object_set.specs.Walks.{items_in};
 ghost use Rattle.symbol_table.specs.Candidates.{names_seen, candidates_of, duplicate_at, first_duplicate};
-ghost use Rattle.symbol_table.specs.inside.Names.{IsPaired, SeesMore, HasNumber, KeepsNumbers, AreFileNumbers, AreAllNameNumbers, candidates_of_new, external_of};
+ghost use Rattle.symbol_table.specs.inside.Names.{IsPaired, SeesMore, HasNumber, KeepsNumbers, AreFileNumbers, AreAllNameNumbers};
+ghost use Rattle.symbol_table.specs.inside.Names.{candidates_of_new, external_of};
 
 use crate::candidates::Candidates;
 use crate::names::{NameIndex, owned};

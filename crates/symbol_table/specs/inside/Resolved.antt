@@ -9,11 +9,12 @@ use Rattle.symbol_table.specs.inside.Names.{AreAllNameNumbers}
 use Rattle.symbol_table.specs.inside.Commons.{AreCommons}
 
 -- names of files, their numbers, and what is said of each
-pub record AreResolvedNames (files : List (List ℕ)) (candidates : List Candidates) (numbers : List (List ℕ)) (commons : Commons) : Type 0 where
-  pub whole : set_refusal files ≡ None
-  pub candidates_are : candidates ≡ all_candidates files
-  pub numbers_are : AreAllNameNumbers (names_of (external_symbols files)) files (length files) numbers
-  pub commons_are : AreCommons (all_candidates files) commons
+pub record AreResolvedNames (files : List (List ℕ)) (candidates : List Candidates) (numbers : List (List ℕ)) (commons : Commons) : Type 0
+  where
+    pub whole : set_refusal files ≡ None
+    pub candidates_are : candidates ≡ all_candidates files
+    pub numbers_are : AreAllNameNumbers (names_of (external_symbols files)) files (length files) numbers
+    pub commons_are : AreCommons (all_candidates files) commons
 
 -- names and text sections of the same files, none of which is refused
 pub record IsOfFiles (names texts : List (List ℕ)) : Type 0 where

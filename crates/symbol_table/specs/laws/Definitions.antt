@@ -1,5 +1,6 @@
 -- What a name stands for is a definition: a symbol of one of the files that is absolute or lies in a kept section.
-use Rattle.std.proofs.Common.{◌≡◌, ◌<◌, ◌≤◌, ℕ, zero, suc, Bool, true, false, List, [], ◌∷◌, ◌++◌, ◌&&◌, length, Option, Some, None, slice_get, filter, sym, ap, ◌∙◌, refl, arith, subst, if◌then◌else◌}
+use Rattle.std.proofs.Common.{◌≡◌, ◌<◌, ◌≤◌, ℕ, zero, suc, Bool, true, false, List, [], ◌∷◌, ◌++◌, ◌&&◌, length, Option, Some, None}
+use Rattle.std.proofs.Common.{slice_get, filter, sym, ap, ◌∙◌, refl, arith, subst, if◌then◌else◌}
 use Rattle.std.specs.Str.{bytes_eq}
 use Rattle.std.specs.Option.{option_map}
 use Rattle.std.proofs.lemmas.Bool.{and_parts}
@@ -14,7 +15,8 @@ use Rattle.symbol_table.specs.declared.role.Role.TheVariants as role
 use Rattle.symbol_table.specs.declared.candidates.Resolution.TheVariants as resolution
 use Rattle.symbol_table.specs.Targets.{IsPlaced, is_defined}
 use Rattle.symbol_table.specs.Externals.{External, role_of, external_symbol, external_walk, external_symbols}
-use Rattle.symbol_table.specs.Candidates.{bearing, is_global_role, is_common_role, is_weak_role, id_of, common_of, first_resolution, stands_for}
+use Rattle.symbol_table.specs.Candidates.{bearing, is_global_role, is_common_role, is_weak_role, id_of, common_of, first_resolution}
+use Rattle.symbol_table.specs.Candidates.{stands_for}
 
 -- a symbol of one of the files, with what it does for its name
 record IsExternal (set : List (List ℕ)) (s : External) : Type 0 where
@@ -25,7 +27,8 @@ record IsExternal (set : List (List ℕ)) (s : External) : Type 0 where
 abbrev AllExternal : List (List ℕ) → List External → Type 0
 AllExternal set symbols = (k : ℕ) (s : External) → slice_get symbols k ≡ Some s → IsExternal set s
 
-external_case : (set : List (List ℕ)) (file n : ℕ) (b : List ℕ) (local : Bool) → is_local b n ≡ local → b ≡ file_at set file → file < length set → n < symbol_count b →
+external_case : (set : List (List ℕ)) (file n : ℕ) (b : List ℕ) (local : Bool) → is_local b n ≡ local → b ≡ file_at set file →
+    file < length set → n < symbol_count b →
     AllExternal set (if local then [] else external_symbol file b n ∷ [])
 external_case set file n b true is same within below k s found = cc
 external_case set file zero b false is same within below k s found = cc
@@ -63,10 +66,12 @@ filter_case set p x xs true is first rest zero s found =
     subst (λ (t : External). IsPicked set p t) this (record { external = first; passes = is })
 filter_case set p x xs true is first rest (suc k) s found = rest k s found
 
-filter_picks : (set : List (List ℕ)) (p : External → Bool) (xs : List External) → AllExternal set xs → (k : ℕ) (s : External) → slice_get (filter p xs) k ≡ Some s →
+filter_picks : (set : List (List ℕ)) (p : External → Bool) (xs : List External) → AllExternal set xs → (k : ℕ) (s : External) →
+    slice_get (filter p xs) k ≡ Some s →
     IsPicked set p s
 filter_picks set p [] all k s found = cc
-filter_picks set p (x ∷ xs) all k s found = filter_case set p x xs (p x) refl (all 0 x refl) (filter_picks set p xs (λ i t f. all (suc i) t f)) k s found
+filter_picks set p (x ∷ xs) all k s found =
+    filter_case set p x xs (p x) refl (all 0 x refl) (filter_picks set p xs (λ i t f. all (suc i) t f)) k s found
 
 -- a definition: a symbol of one of the files that is a place or a number by itself
 pub record IsDefinition (set : List (List ℕ)) (d : SymbolId) : Type 0 where
@@ -75,7 +80,9 @@ pub record IsDefinition (set : List (List ℕ)) (d : SymbolId) : Type 0 where
 
 -- what is said of a name's definitions by their roles
 abbrev IsDefining : (Role → Bool) → Type 0
-IsDefining does = (common defines global : Bool) → does (if common then role.Common else (if defines then (if global then role.Global else role.Weak) else role.Reference)) ≡ true → defines ≡ true
+IsDefining does = (common defines global : Bool) →
+    does (if common then role.Common else (if defines then (if global then role.Global else role.Weak) else role.Reference)) ≡ true →
+    defines ≡ true
 
 defining_global : IsDefining is_global_role
 defining_global true defines global does = cc
@@ -91,7 +98,8 @@ role_defined : (does : Role → Bool) (b : List ℕ) (j : ℕ) → IsDefining do
 unfolding role_of
 role_defined does b j defining is = defining (is_common b j) (is_defined b j) (is_global b j) is
 
-picked_definition : (set : List (List ℕ)) (does : Role → Bool) (name : List ℕ) (s : External) → IsDefining does → IsPicked set (λ t. bytes_eq name t.name && does t.role) s →
+picked_definition : (set : List (List ℕ)) (does : Role → Bool) (name : List ℕ) (s : External) → IsDefining does →
+    IsPicked set (λ t. bytes_eq name t.name && does t.role) s →
     IsDefinition set (id_of s)
 picked_definition set does name s defining picked =
     let does_so : does s.role ≡ true = (and_parts (bytes_eq name s.name) (does s.role) picked.passes).1 in
@@ -109,7 +117,8 @@ first_definition set does name (Some s) d defining read is =
     let picked = filter_picks set (λ t. bytes_eq name t.name && does t.role) (external_symbols set) all 0 s read in
     subst (IsDefinition set) this (picked_definition set does name s defining picked)
 
-resolution_case : (set : List (List ℕ)) (g w : Option SymbolId) (c : Option CommonSize) (d : SymbolId) → ((p : SymbolId) → g ≡ Some p → IsDefinition set p) → ((p : SymbolId) → w ≡ Some p → IsDefinition set p) →
+resolution_case : (set : List (List ℕ)) (g w : Option SymbolId) (c : Option CommonSize) (d : SymbolId) →
+    ((p : SymbolId) → g ≡ Some p → IsDefinition set p) → ((p : SymbolId) → w ≡ Some p → IsDefinition set p) →
     first_resolution g c w ≡ resolution.Definition d → IsDefinition set d
 resolution_case set (Some p) w c d first last is =
     let this : p ≡ d = cc in
@@ -121,13 +130,16 @@ resolution_case set None (Some p) None d first last is =
 resolution_case set None None None d first last is = cc
 
 -- what a name stands for is a definition
-pub name_definition : (set : List (List ℕ)) (name : List ℕ) (d : SymbolId) → stands_for set name ≡ resolution.Definition d → IsDefinition set d
+pub name_definition : (set : List (List ℕ)) (name : List ℕ) (d : SymbolId) → stands_for set name ≡ resolution.Definition d →
+    IsDefinition set d
 name_definition set name d is =
     let symbols = external_symbols set in
-    resolution_case set (option_map id_of (slice_get (bearing is_global_role name symbols) 0)) (option_map id_of (slice_get (bearing is_weak_role name symbols) 0))
+    resolution_case set (option_map id_of (slice_get (bearing is_global_role name symbols) 0))
+    (option_map id_of (slice_get (bearing is_weak_role name symbols) 0))
     (common_of (bearing is_common_role name symbols)) d
     (λ p at. first_definition set is_global_role name (slice_get (bearing is_global_role name symbols) 0) p defining_global refl at)
     (λ p at. first_definition set is_weak_role name (slice_get (bearing is_weak_role name symbols) 0) p defining_weak refl at) is
 
-pub definition_placed : (set : List (List ℕ)) (name : List ℕ) (d : SymbolId) → stands_for set name ≡ resolution.Definition d → IsPlaced set d.file d.symbol
+pub definition_placed : (set : List (List ℕ)) (name : List ℕ) (d : SymbolId) → stands_for set name ≡ resolution.Definition d →
+    IsPlaced set d.file d.symbol
 definition_placed set name d is = (name_definition set name d is).placed

@@ -1,6 +1,7 @@
 -- A symbol goes where its definition lies, what goes to text goes to one of the text sections, and an entry that isn't refused is an
 -- instruction.
-use Rattle.std.proofs.Common.{◌≡◌, ◌<◌, ◌≤◌, ◌⊎◌, inl, inr, ℕ, ℤ, zero, suc, ◌+◌, ◌%◌, Bool, true, false, List, [], ◌∷◌, ◌++◌, ◌&&◌, ◌||◌, length, Option, Some, None, slice_get, sym, ap, ◌∙◌, refl, arith, subst, if◌then◌else◌}
+use Rattle.std.proofs.Common.{◌≡◌, ◌<◌, ◌≤◌, ◌⊎◌, inl, inr, ℕ, ℤ, zero, suc, ◌+◌, ◌%◌, Bool, true, false, List, [], ◌∷◌, ◌++◌, ◌&&◌, ◌||◌}
+use Rattle.std.proofs.Common.{length, Option, Some, None, slice_get, sym, ap, ◌∙◌, refl, arith, subst, if◌then◌else◌}
 use Rattle.std.specs.Prelude.{◌==◌, nat_lt, is_some, unwrap_or, IsSome}
 use Rattle.std.proofs.Math.Nat.{zero-add}
 use Rattle.std.proofs.lemmas.Bool.{and_parts, cases_lt}
@@ -25,12 +26,15 @@ use Rattle.symbol_table.specs.declared.target.Target.TheVariants as target
 use Rattle.object_set.specs.declared.places.SymbolId.{SymbolId}
 use Rattle.symbol_table.specs.Text.{text_sections, text_index}
 use Rattle.symbol_table.specs.laws.Text.{IsTextSection, text_index_within}
-use Rattle.symbol_table.specs.Targets.{IsPlaced, plus_addend, section_target, index_target, own_target, named_target, external_target, target_of, is_defined, definition_of, is_instruction, instruction_in, entry_fault, entry_refusal, entry_at, entry_place}
+use Rattle.symbol_table.specs.Targets.{IsPlaced, plus_addend, section_target, index_target, own_target, named_target, external_target}
+use Rattle.symbol_table.specs.Targets.{target_of, is_defined, definition_of, is_instruction, instruction_in, entry_fault, entry_refusal}
+use Rattle.symbol_table.specs.Targets.{entry_at, entry_place}
 use Rattle.symbol_table.specs.Candidates.{stands_for, definition_in}
 use Rattle.symbol_table.specs.laws.Definitions.{IsDefinition, name_definition, definition_placed}
 
 -- the section of something that goes to text
-section_code : (set : List (List ℕ)) (file at i section offset : ℕ) (sort : Sort) → section_target set file at i sort ≡ Some (target.Code section offset) →
+section_code : (set : List (List ℕ)) (file at i section offset : ℕ) (sort : Sort) →
+    section_target set file at i sort ≡ Some (target.Code section offset) →
     (is_text_sort sort ≡ true) × (text_index set file i ≡ section)
 section_code set file at i section offset Text is = (refl, cc)
 section_code set file at i section offset Zeroed is = cc
@@ -40,7 +44,8 @@ section_code set file at i section offset ReadOnly is = cc
 section_code set file at i section offset Dropped is = cc
 
 -- section i of a file is text, with its number
-index_text : (set : List (List ℕ)) (file i section : ℕ) → file < length set → i < e_shnum (file_at set file) → is_text (file_at set file) i ≡ true → text_index set file i ≡ section →
+index_text : (set : List (List ℕ)) (file i section : ℕ) → file < length set → i < e_shnum (file_at set file) →
+    is_text (file_at set file) i ≡ true → text_index set file i ≡ section →
     IsTextSection set section file i
 index_text set file i section file_in within text place = record { file_in = file_in; within = within; text = text; index = place }
 
@@ -49,7 +54,8 @@ section_in : (set : List (List ℕ)) (file j : ℕ) → set_refusal set ≡ None
 section_in set file j whole placed has =
     (symbol_fit file (file_at set file) j (file_fit set file whole placed.file_in) placed.some placed.within).section has
 
-index_code : (set : List (List ℕ)) (file j at section offset : ℕ) (has : Bool) → has_section (file_at set file) j ≡ has → set_refusal set ≡ None → IsPlaced set file j →
+index_code : (set : List (List ℕ)) (file j at section offset : ℕ) (has : Bool) → has_section (file_at set file) j ≡ has →
+    set_refusal set ≡ None → IsPlaced set file j →
     index_target set file at (if has then Some (index_of (file_at set file) j) else None) ≡ Some (target.Code section offset) →
     section < length (text_sections set)
 index_code set file j at section offset false has whole placed is = cc
@@ -59,23 +65,29 @@ index_code set file j at section offset true has whole placed is =
     let inside = text_index_within set file i placed.file_in (section_in set file j whole placed has) lies.0 in
     omega (arith, inside, lies.1)
 
-own_code : (set : List (List ℕ)) (file j : ℕ) (addend : ℤ) (section offset : ℕ) (absolute : Bool) → set_refusal set ≡ None → IsPlaced set file j →
+own_code : (set : List (List ℕ)) (file j : ℕ) (addend : ℤ) (section offset : ℕ) (absolute : Bool) → set_refusal set ≡ None →
+    IsPlaced set file j →
     (if absolute then Some (target.Number (plus_addend (st_value (file_at set file) j) addend))
-    else index_target set file (plus_addend (st_value (file_at set file) j) addend) (section_index (file_at set file) j)) ≡ Some (target.Code section offset) →
+    else index_target set file (plus_addend (st_value (file_at set file) j) addend) (section_index (file_at set file) j)) ≡ Some
+    (target.Code section offset) →
     section < length (text_sections set)
 own_code set file j addend section offset true whole placed is = cc
 own_code set file j addend section offset false whole placed is =
-    index_code set file j (plus_addend (st_value (file_at set file) j) addend) section offset (has_section (file_at set file) j) refl whole placed is
+    index_code set file j (plus_addend (st_value (file_at set file) j) addend) section offset (has_section (file_at set file) j) refl
+    whole placed is
 
-named_code : (set : List (List ℕ)) (name : List ℕ) (weak : Bool) (stands : Resolution) (addend : ℤ) (section offset : ℕ) → set_refusal set ≡ None → stands_for set name ≡ stands →
+named_code : (set : List (List ℕ)) (name : List ℕ) (weak : Bool) (stands : Resolution) (addend : ℤ) (section offset : ℕ) →
+    set_refusal set ≡ None → stands_for set name ≡ stands →
     named_target set name weak stands addend ≡ Some (target.Code section offset) → section < length (text_sections set)
 named_code set name weak (resolution.Definition s) addend section offset whole stands is =
-    own_code set s.file s.symbol addend section offset (is_absolute (file_at set s.file) s.symbol) whole (definition_placed set name s stands) is
+    own_code set s.file s.symbol addend section offset (is_absolute (file_at set s.file) s.symbol) whole
+    (definition_placed set name s stands) is
 named_code set name weak (resolution.Common common) addend section offset whole stands is = cc
 named_code set name true resolution.Undefined addend section offset whole stands is = cc
 named_code set name false resolution.Undefined addend section offset whole stands is = cc
 
-target_code : (set : List (List ℕ)) (file j : ℕ) (addend : ℤ) (section offset : ℕ) (none base local : Bool) → (j == 0) ≡ none → set_refusal set ≡ None → file < length set →
+target_code : (set : List (List ℕ)) (file j : ℕ) (addend : ℤ) (section offset : ℕ) (none base local : Bool) → (j == 0) ≡ none →
+    set_refusal set ≡ None → file < length set →
     j < symbol_count (file_at set file) →
     (if none then Some (target.Number (plus_addend 0 addend))
     else (if base then Some (target.TocBase file addend)
@@ -86,13 +98,15 @@ target_code set file j addend section offset true base local zeroth whole file_i
 target_code set file j addend section offset false true local zeroth whole file_in within is = cc
 target_code set file j addend section offset false false true zeroth whole file_in within is =
     let some : 0 < j = grind (arith, nat_tests, zeroth) in
-    own_code set file j addend section offset (is_absolute (file_at set file) j) whole (record { file_in = file_in; some = some; within = within }) is
+    own_code set file j addend section offset (is_absolute (file_at set file) j) whole
+    (record { file_in = file_in; some = some; within = within }) is
 target_code set file j addend section offset false false false zeroth whole file_in within is =
     let b = file_at set file in
     named_code set (name_of b j) (is_weak b j) (stands_for set (name_of b j)) addend section offset whole refl is
 
 -- what goes to text goes to one of the text sections
-pub code_within : (set : List (List ℕ)) (file j : ℕ) (addend : ℤ) (section offset : ℕ) → set_refusal set ≡ None → file < length set → j < symbol_count (file_at set file) →
+pub code_within : (set : List (List ℕ)) (file j : ℕ) (addend : ℤ) (section offset : ℕ) → set_refusal set ≡ None → file < length set →
+    j < symbol_count (file_at set file) →
     target_of set file j addend ≡ Some (target.Code section offset) → section < length (text_sections set)
 code_within set file j addend section offset whole file_in within is =
     let b = file_at set file in
@@ -104,7 +118,8 @@ pub record IsInstructionAt (set : List (List ℕ)) (place : CodePlace) (file sec
   pub aligned : place.offset % 4 ≡ 0
   pub within : place.offset < sh_size (file_at set file) section
 
-instruction_parts : (b : List ℕ) (i offset : ℕ) → is_instruction b i offset ≡ true → (is_text b i ≡ true) × (offset % 4 ≡ 0) × (offset < sh_size b i)
+instruction_parts : (b : List ℕ) (i offset : ℕ) → is_instruction b i offset ≡ true →
+    (is_text b i ≡ true) × (offset % 4 ≡ 0) × (offset < sh_size b i)
 instruction_parts b i offset is =
     let all = and_parts (is_text b i && offset % 4 == 0) (nat_lt offset (sh_size b i)) is in
     let first = and_parts (is_text b i) (offset % 4 == 0) all.0 in
@@ -112,7 +127,8 @@ instruction_parts b i offset is =
     let within = all.1 in
     (first.0, grind (arith, nat_tests, aligned), grind (arith, nat_tests, within))
 
-index_within : (set : List (List ℕ)) (file j i : ℕ) (has : Bool) → has_section (file_at set file) j ≡ has → set_refusal set ≡ None → IsPlaced set file j →
+index_within : (set : List (List ℕ)) (file j i : ℕ) (has : Bool) → has_section (file_at set file) j ≡ has → set_refusal set ≡ None →
+    IsPlaced set file j →
     (if has then Some (index_of (file_at set file) j) else None) ≡ Some i → i < e_shnum (file_at set file)
 index_within set file j i false has whole placed is = cc
 index_within set file j i true has whole placed is =
@@ -124,7 +140,8 @@ index_within set file j i true has whole placed is =
 abbrev place_of_text : List (List ℕ) → ℕ → ℕ → ℕ → Bool → Option CodePlace
 place_of_text set file i offset there = if there then Some (record { section = text_index set file i; offset = offset }) else None
 
-place_case : (set : List (List ℕ)) (file i offset : ℕ) (there : Bool) (other : CodePlace) (r : Refusal) → file < length set → i < e_shnum (file_at set file) →
+place_case : (set : List (List ℕ)) (file i offset : ℕ) (there : Bool) (other : CodePlace) (r : Refusal) → file < length set →
+    i < e_shnum (file_at set file) →
     is_instruction (file_at set file) i offset ≡ there → (if is_some (place_of_text set file i offset there) then None else Some r) ≡ None →
     IsInstructionAt set (unwrap_or (place_of_text set file i offset there) other) file i
 place_case set file i offset false other r file_in within is passes = cc
@@ -136,7 +153,8 @@ place_case set file i offset true other r file_in within is passes =
       within = parts.2;
     }
 
-entry_case : (set : List (List ℕ)) (file j : ℕ) (o : Option ℕ) (other : CodePlace) (r : Refusal) → set_refusal set ≡ None → IsPlaced set file j → section_index (file_at set file) j ≡ o →
+entry_case : (set : List (List ℕ)) (file j : ℕ) (o : Option ℕ) (other : CodePlace) (r : Refusal) → set_refusal set ≡ None →
+    IsPlaced set file j → section_index (file_at set file) j ≡ o →
     (if is_some (instruction_in set file (st_value (file_at set file) j) o) then None else Some r) ≡ None →
     (i : ℕ) × IsInstructionAt set (unwrap_or (instruction_in set file (st_value (file_at set file) j) o) other) file i
 entry_case set file j None other r whole placed index passes = cc
@@ -145,10 +163,12 @@ entry_case set file j (Some i) other r whole placed index passes =
     let within = index_within set file j i (has_section (file_at set file) j) refl whole placed index in
     (i, place_case set file i offset (is_instruction (file_at set file) i offset) other r placed.file_in within refl passes)
 
-stands_case : (set : List (List ℕ)) (entry : List ℕ) (stands : Resolution) → set_refusal set ≡ None → stands_for set entry ≡ stands → entry_fault set entry stands ≡ None →
+stands_case : (set : List (List ℕ)) (entry : List ℕ) (stands : Resolution) → set_refusal set ≡ None → stands_for set entry ≡ stands →
+    entry_fault set entry stands ≡ None →
     (file : ℕ) × (section : ℕ) × IsInstructionAt set (entry_at set stands) file section
 stands_case set entry (resolution.Definition s) whole stands passes =
-    let found = entry_case set s.file s.symbol (section_index (file_at set s.file) s.symbol) (record { section = 0; offset = 0 }) (EntryNotCode entry) whole
+    let found = entry_case set s.file s.symbol (section_index (file_at set s.file) s.symbol) (record { section = 0; offset = 0 })
+    (EntryNotCode entry) whole
     (definition_placed set entry s stands) refl passes in
     (s.file, found.0, found.1)
 stands_case set entry (resolution.Common common) whole stands passes = cc
@@ -159,7 +179,8 @@ pub entry_instruction : (set : List (List ℕ)) (entry : List ℕ) → set_refus
     (file : ℕ) × (section : ℕ) × IsInstructionAt set (entry_place set entry) file section
 entry_instruction set entry whole passes = stands_case set entry (stands_for set entry) whole refl passes
 
-stands_target : (set : List (List ℕ)) (name : List ℕ) (weak : Bool) (stands : Resolution) (d : SymbolId) (addend : ℤ) → definition_in stands ≡ Some d →
+stands_target : (set : List (List ℕ)) (name : List ℕ) (weak : Bool) (stands : Resolution) (d : SymbolId) (addend : ℤ) →
+    definition_in stands ≡ Some d →
     named_target set name weak stands addend ≡ own_target set d.file d.symbol addend
 stands_target set name weak (resolution.Definition s) d addend is =
     let this : s ≡ d = cc in
@@ -194,14 +215,16 @@ definition_target set file j d addend is =
     let b = file_at set file in
     definition_case set file j d addend (j == 0) (is_toc_base b j) (is_local b j) (is_defined b j) is
 
-defined_stands : (set : List (List ℕ)) (name : List ℕ) (stands : Resolution) (d : SymbolId) → stands_for set name ≡ stands → definition_in stands ≡ Some d → IsDefinition set d
+defined_stands : (set : List (List ℕ)) (name : List ℕ) (stands : Resolution) (d : SymbolId) → stands_for set name ≡ stands →
+    definition_in stands ≡ Some d → IsDefinition set d
 defined_stands set name (resolution.Definition s) d stands is =
     let this : s ≡ d = cc in
     subst (IsDefinition set) this (name_definition set name s stands)
 defined_stands set name (resolution.Common common) d stands is = cc
 defined_stands set name resolution.Undefined d stands is = cc
 
-definition_of_case : (set : List (List ℕ)) (file j : ℕ) (d : SymbolId) (none base local own : Bool) → (j == 0) ≡ none → is_defined (file_at set file) j ≡ own → file < length set →
+definition_of_case : (set : List (List ℕ)) (file j : ℕ) (d : SymbolId) (none base local own : Bool) → (j == 0) ≡ none →
+    is_defined (file_at set file) j ≡ own → file < length set →
     j < symbol_count (file_at set file) →
     (if none || base then None
     else (if local then (if own then Some (record { file = file; symbol = j }) else None)
@@ -237,10 +260,13 @@ section_goes set file at i Writable kept = refl
 section_goes set file at i ReadOnly kept = refl
 section_goes set file at i Dropped kept = cc
 
-own_goes : (set : List (List ℕ)) (file j at : ℕ) (absolute has : Bool) → (absolute || (has && is_kept_sort (sort_of (file_at set file) (index_of (file_at set file) j)))) ≡ true →
-    IsSome (if absolute then Some (target.Number at) else index_target set file at (if has then Some (index_of (file_at set file) j) else None))
+own_goes : (set : List (List ℕ)) (file j at : ℕ) (absolute has : Bool) →
+    (absolute || (has && is_kept_sort (sort_of (file_at set file) (index_of (file_at set file) j)))) ≡ true →
+    IsSome (if absolute then Some (target.Number at) else index_target set file at
+    (if has then Some (index_of (file_at set file) j) else None))
 own_goes set file j at true has is = refl
-own_goes set file j at false true is = section_goes set file at (index_of (file_at set file) j) (sort_of (file_at set file) (index_of (file_at set file) j)) is
+own_goes set file j at false true is =
+    section_goes set file at (index_of (file_at set file) j) (sort_of (file_at set file) (index_of (file_at set file) j)) is
 own_goes set file j at false false is = cc
 
 -- a symbol that has a definition goes somewhere

@@ -1,5 +1,6 @@
 -- Text sections and their numbers are told by one another.
-use Rattle.std.proofs.Common.{◌≡◌, ◌<◌, ℕ, zero, suc, Bool, true, false, List, [], ◌∷◌, length, Some, None, slice_get, sym, ap, ◌∙◌, refl, arith, subst, add-zero, if◌then◌else◌}
+use Rattle.std.proofs.Common.{◌≡◌, ◌<◌, ℕ, zero, suc, Bool, true, false, List, [], ◌∷◌, length, Some, None, slice_get, sym, ap, ◌∙◌, refl}
+use Rattle.std.proofs.Common.{arith, subst, add-zero, if◌then◌else◌}
 use Rattle.std.proofs.lemmas.Option.{slice_get_within}
 use Rattle.elf64_records.specs.FileHeader.{e_shnum}
 use Rattle.object_set.specs.declared.places.SectionId.{SectionId}

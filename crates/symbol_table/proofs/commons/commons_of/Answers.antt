@@ -16,6 +16,7 @@ loop-i-preserved c =
     let within : i < length candidates = omega arith in
     let more = row_more (λ j k. k ≡ length (commons_before candidates j)) i c.loop-i.numbers.items c.len.result before.numbers count in
     record {
-      sizes = commons_more candidates i _ c.loop-i.sizes.items c.push_common.new.sizes.items within before.sizes c.in_ok-push_common.ensures;
+      sizes = commons_more candidates i _ c.loop-i.sizes.items c.push_common.new.sizes.items within before.sizes
+          c.in_ok-push_common.ensures;
       numbers = subst (AreCommonNumbers candidates (i + 1)) (sym c.in_ok-push.ensures.items) more;
     }

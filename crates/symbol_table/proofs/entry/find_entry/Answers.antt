@@ -7,6 +7,7 @@ pub instruction-requires-clause-file : goal.instruction-requires-clause-file
 instruction-requires-clause-file c =
     (definition_placed c.args.texts.now c.args.entry.now c.in-Definition.symbol (sym c.requires.resolution ∙ c.in-Definition.is)).file_in
 
+-- and its number is one of that file
 pub instruction-requires-clause-within : goal.instruction-requires-clause-within
 instruction-requires-clause-within c =
     (definition_placed c.args.texts.now c.args.entry.now c.in-Definition.symbol (sym c.requires.resolution ∙ c.in-Definition.is)).within

@@ -13,8 +13,10 @@ loop-file-preserved c =
     let file = c.loop-file.file in
     let before = c.loop-file.invariant in
     let now = c.in_ok-row.ensures in
-    let more = all_numbers_more c.loop-file.table.names c.read_file.new.table.names set file c.loop-file.numbers.items c.in_ok-row.row before.numbers now.keeps now.numbers in
+    let more = all_numbers_more c.loop-file.table.names c.read_file.new.table.names set file c.loop-file.numbers.items c.in_ok-row.row
+    before.numbers now.keeps now.numbers in
     record {
-      seen = now.seen (items_before external_walk set file) before.seen ∙ ap (λ (n : ℕ). names_seen (items_before external_walk set n)) (sym (add-one file));
+      seen = now.seen (items_before external_walk set file) before.seen
+          ∙ ap (λ (n : ℕ). names_seen (items_before external_walk set n)) (sym (add-one file));
       numbers = subst (AreAllNameNumbers c.read_file.new.table.names set (file + 1)) (sym c.in_ok-push.ensures.items) more;
     }

@@ -15,10 +15,12 @@ loop-j-preserved c =
     let j = c.loop-j.j in
     let before = c.loop-j.invariant in
     let now = c.in_ok-number.ensures in
-    let more = numbers_more c.loop-j.table.names c.read_symbol.new.table.names b j c.loop-j.items.items c.in_ok-number.number before.numbers now.keeps now.number in
+    let more = numbers_more c.loop-j.table.names c.read_symbol.new.table.names b j c.loop-j.items.items c.in_ok-number.number
+    before.numbers now.keeps now.number in
     record {
       seen = λ symbols is.
-          now.seen (symbols ++ items_in external_walk c.args.file b j) (before.seen symbols is) ∙ ap names_seen (external_step symbols c.args.file b j);
+          now.seen (symbols ++ items_in external_walk c.args.file b j) (before.seen symbols is)
+          ∙ ap names_seen (external_step symbols c.args.file b j);
       keeps = λ k name found. now.keeps k name (before.keeps k name found);
       numbers = subst (AreNameNumbers c.read_symbol.new.table.names b (j + 1)) (sym c.in_ok-push.ensures.items) more;
       paired = now.paired;

@@ -12,7 +12,8 @@ returns-clause-seen c =
     let b = file_at c.args.set.now c.args.file in
     let s = external_of c.external_symbol.result in
     let this = one_external c.args.file b c.args.j s (sym c.is_local.ensures ∙ c.if-is_local.false) c.external_symbol.ensures in
-    subst (λ (more : List External). OnOk c.add_symbol.result (SeesMore c.args.table.now c.add_symbol.new.self more)) this c.add_symbol.ensures.seen
+    subst (λ (more : List External). OnOk c.add_symbol.result (SeesMore c.args.table.now c.add_symbol.new.self more)) this
+    c.add_symbol.ensures.seen
 
 -- names keep their numbers
 pub returns-clause-keeps : goal.returns-clause-keeps

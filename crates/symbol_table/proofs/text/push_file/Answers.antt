@@ -20,7 +20,8 @@ loop-section-preserved c =
     let this = count ∙ ap length before.texts ∙ length-items text_walk set file i in
     let more = row_more (λ j k. k ≡ text_index set file j) i c.loop-section.items.items c.len-in-loop-section.result before.indexes this in
     record {
-      texts = c.in_ok-push_text.ensures ∙ ap (λ (t : List SectionId). t ++ text_at file (file_at set file) i) before.texts ∙ items_step text_walk set file i;
+      texts = c.in_ok-push_text.ensures ∙ ap (λ (t : List SectionId). t ++ text_at file (file_at set file) i) before.texts
+          ∙ items_step text_walk set file i;
       indexes = subst (AreTextIndexes set file (i + 1)) (sym c.in_ok-push.ensures.items) more;
     }
 

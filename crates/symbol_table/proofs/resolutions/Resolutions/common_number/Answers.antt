@@ -19,11 +19,13 @@ returns c =
     let name = name_of (file_at files c.args.file) c.args.j in
     let k = c.name_number-number.result in
     let numbers = c.self.inside.commons.numbers.items in
-    let are = (subst (λ (f : List (List ℕ)). AreCommons (all_candidates f) c.self.inside.commons) c.self.view_is c.self.invariant.commons_are).numbers in
+    let are = (subst (λ (f : List (List ℕ)). AreCommons (all_candidates f) c.self.inside.commons) c.self.view_is
+    c.self.invariant.commons_are).numbers in
     let within = slice_get_within names k name c.name_number-number.ensures in
     let count = length-map names (candidates_of (external_symbols files)) in
     let inside : k < length numbers = omega (arith, within, count, are.count) in
     let among : k < length (all_candidates files) = omega (arith, within, count) in
     let read = slice_get_read numbers (length numbers) k c.index.result.now refl inside c.index.ensures in
     let place = position_once names k name (once_names (external_symbols files)) c.name_number-number.ensures in
-    sym (read_at numbers k c.index.result.now 0 read) ∙ are.each k among ∙ ap (λ (i : ℕ). length (commons_before (all_candidates files) i)) (sym place)
+    sym (read_at numbers k c.index.result.now 0 read) ∙ are.each k among
+    ∙ ap (λ (i : ℕ). length (commons_before (all_candidates files) i)) (sym place)

@@ -11,14 +11,17 @@ pub own_target-requires-clause-file : goal.own_target-requires-clause-file
 own_target-requires-clause-file c =
     let files = c.self.inside.texts in
     let same = ap (λ (r : ResolvedFiles). r.files) (sym c.self.view_is) in
-    let placed = definition_placed c.args.self.now.files (name_of (file_at c.args.self.now.files c.args.file) c.args.symbol) c.in-Definition.definition
+    let placed = definition_placed c.args.self.now.files (name_of (file_at c.args.self.now.files c.args.file) c.args.symbol)
+    c.in-Definition.definition
     (sym c.resolution_at.ensures ∙ c.in-Definition.is) in
     (subst (λ (f : List (List ℕ)). IsPlaced f c.in-Definition.definition.file c.in-Definition.definition.symbol) same placed).file_in
 
+-- and its number is one of that file
 pub own_target-requires-clause-within : goal.own_target-requires-clause-within
 own_target-requires-clause-within c =
     let files = c.self.inside.texts in
     let same = ap (λ (r : ResolvedFiles). r.files) (sym c.self.view_is) in
-    let placed = definition_placed c.args.self.now.files (name_of (file_at c.args.self.now.files c.args.file) c.args.symbol) c.in-Definition.definition
+    let placed = definition_placed c.args.self.now.files (name_of (file_at c.args.self.now.files c.args.file) c.args.symbol)
+    c.in-Definition.definition
     (sym c.resolution_at.ensures ∙ c.in-Definition.is) in
     (subst (λ (f : List (List ℕ)). IsPlaced f c.in-Definition.definition.file c.in-Definition.definition.symbol) same placed).within

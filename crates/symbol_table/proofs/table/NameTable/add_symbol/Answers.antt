@@ -20,5 +20,6 @@ returns-clause-seen c =
     (slice_set c.self.inside.candidates.items c.in_ok-number.number c.with-candidates.result) c.in_ok-number.number c.index.result.now is
     (names ∙ c.in_ok-number.ensures.names) (candidates ∙ c.in_ok-number.ensures.candidates)
     (ap (λ (l : List (List ℕ)). slice_get l c.in_ok-number.number) names ∙ c.in_ok-number.ensures.number)
-    (slice_get_read c.self.inside.candidates.items (length c.self.inside.candidates.items) c.in_ok-number.number c.index.result.now refl within c.index.ensures)
+    (slice_get_read c.self.inside.candidates.items (length c.self.inside.candidates.items) c.in_ok-number.number c.index.result.now refl
+    within c.index.ensures)
     (ap (λ (v : Candidates). slice_set c.self.inside.candidates.items c.in_ok-number.number v) c.with-candidates.ensures)

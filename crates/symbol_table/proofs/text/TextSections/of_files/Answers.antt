@@ -13,7 +13,8 @@ loop-file-preserved c =
     let file = c.loop-file.file in
     let now = c.in_ok-row.ensures in
     let index = λ (f i k : ℕ). k ≡ text_index set f i in
-    let more = rows_more index (λ f. e_shnum (file_at set f)) file c.loop-file.indexes.items c.in_ok-row.row c.loop-file.invariant.indexes now.indexes in
+    let more = rows_more index (λ f. e_shnum (file_at set f)) file c.loop-file.indexes.items c.in_ok-row.row
+    c.loop-file.invariant.indexes now.indexes in
     record {
       texts = now.texts;
       indexes = subst (AreAllTextIndexes set (file + 1)) (sym c.in_ok-push.ensures.items) more;
