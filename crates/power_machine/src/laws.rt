@@ -11,7 +11,7 @@ ghost use Rattle.power_machine.specs.Machines.{Next, Went, exec, state_after, su
 ghost use Rattle.power_machine.specs.Numbers.{NumberState, numbers};
 ghost use Rattle.power_machine.specs.Runs.{Steps, Continues, Reaches, Grows, begun};
 ghost use Rattle.power_machine.specs.Start.{RunsTo};
-ghost use Rattle.power_machine.specs.Steps.{NumberRun, NumberProgress, IsStep, Made};
+ghost use Rattle.power_machine.specs.Steps.{NumberRun, NumberProgress, IsStep, Made, ReachesIn};
 ghost use Rattle.power_machine.specs.laws.Induction.{Steps as ManySteps};
 ghost use Rattle.power_machine.specs.laws.Kept.{is_branch};
 ghost use Rattle.power_machine.specs.laws.Window.{LoadMovesBefore, StoreMovesBefore};
@@ -22,9 +22,11 @@ pub fn steps_are_one()
         Steps (IsStep ranges) r s → Steps (IsStep ranges) r t → s ≡ t }
 {}
 
-/// An executable in a world comes to one thing in at most so many steps.
+/// A run comes to one thing in at most so many steps, and so does an executable in a world.
 pub fn runs_are_one()
-    ensures { (file input : List ℕ) (answers : List Answer) (n : ℕ) (p q : NumberProgress) →
+    ensures runs { (ranges : List Range) (n : ℕ) (r : NumberRun) (p q : NumberProgress) →
+        ReachesIn ranges n r p → ReachesIn ranges n r q → p ≡ q }
+    ensures executables { (file input : List ℕ) (answers : List Answer) (n : ℕ) (p q : NumberProgress) →
         RunsTo file input answers n p → RunsTo file input answers n q → p ≡ q }
 {}
 
@@ -48,9 +50,11 @@ pub fn events_only_grow()
         Steps (IsStep ranges) r s → Grows r.events (state_after s r).events }
 {}
 
-/// So many steps, of which none leaves, are a run of so many steps.
+/// So many steps, of which none leaves, are a run of so many steps, and such a run is so many steps.
 pub fn steps_are_runs()
-    ensures { (ranges : List Range) (n : ℕ) (r u : NumberRun) →
+    ensures steps { (ranges : List Range) (n : ℕ) (r u : NumberRun) →
+        Reaches (IsStep ranges) n r (begun u u.ended) → ManySteps (Continues (IsStep ranges)) n r u }
+    ensures runs { (ranges : List Range) (n : ℕ) (r u : NumberRun) →
         ManySteps (Continues (IsStep ranges)) n r u →
         Reaches (IsStep ranges) n r (begun u u.ended) }
 {}

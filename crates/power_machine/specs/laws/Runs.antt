@@ -12,8 +12,8 @@ use Rattle.power_machine.specs.declared.world.Event.{Event}
 use Rattle.power_machine.specs.Memory.{Permission, allows_range, bytes_from}
 use Rattle.power_machine.specs.Machines.{Domain, State, Next, Went, Left, need, check, state_after, exec}
 use Rattle.power_machine.specs.Calls.{Run, Asked, event_of, first_answer, granted, number_in, numbers_in, after_write, after_read, asking, read_by, reads, write_by, writes, ended_by, exits, call_by, calls}
-use Rattle.power_machine.specs.Runs.{Progress, Going, Done, Gone, begun, progress_of, StepsFrom, Steps, OneMore, Reaches, Continues, Grows, is_call, next_of, operates}
-use Rattle.power_machine.specs.laws.Induction.{Steps as ManySteps}
+use Rattle.power_machine.specs.Runs.{Progress, Going, Done, Gone, begun, progress_of, run_in, StepsFrom, Steps, OneMore, Reaches, Continues, Grows, is_call, next_of, operates}
+use Rattle.power_machine.specs.laws.Induction.{Steps as ManySteps, step_after}
 
 module _ {V B T P : Type 0} (Step : Run V B T P → Next (Run V B T P) → Type 0) where
   -- a run that goes on has at most one step
@@ -70,6 +70,68 @@ module _ {V B T P : Type 0} (Step : Run V B T P → Next (Run V B T P) → Type 
       let l = last_step n r v h in
       let u = l.0 in
       (begun u u.ended, steps_reach n r u l.1, more_from u v u.ended refl l.2 l.2)
+
+  -- a run that goes on hasn't ended, and one that is done has ended with its status
+  abbrev Told : Progress V B T P → Type 0
+  Told (Going r) = r.ended ≡ None
+  Told (Done status r) = r.ended ≡ Some status
+  Told (Gone reason r) = Unit {0}
+
+  begun_told : (r : Run V B T P) (o : Option ℕ) → r.ended ≡ o → Told (begun r o)
+  begun_told r None h = h
+  begun_told r (Some status) h = h
+
+  next_told : (r : Run V B T P) (next : Next (Run V B T P)) → Told (progress_of r next)
+  next_told r (Went u) = begun_told u u.ended refl
+  next_told r (Left reason) = tt
+
+  more_told : (q p : Progress V B T P) → Told q → OneMore Step q p → Told p
+  more_told (Going r) p told (next, step, is) = subst Told (sym is) (next_told r next)
+  more_told (Done status r) p told is = subst Told (sym is) told
+  more_told (Gone reason r) p told is = subst Told (sym is) told
+
+  reached_told : (n : ℕ) (r : Run V B T P) (p : Progress V B T P) → Reaches Step n r p → Told p
+  reached_told zero r p is = subst Told (sym is) (begun_told r r.ended refl)
+  reached_told (suc n) r p (q, reaches, more) = more_told q p (reached_told n r q reaches) more
+
+  -- none of the steps has left
+  abbrev IsKept : Progress V B T P → Type 0
+  IsKept (Going r) = Unit {0}
+  IsKept (Done status r) = Unit {0}
+  IsKept (Gone reason r) = ⊥
+
+  run_in-begun : (r : Run V B T P) (o : Option ℕ) → run_in (begun r o) ≡ r
+  run_in-begun r None = refl
+  run_in-begun r (Some status) = refl
+
+  begun_kept : (r : Run V B T P) (o : Option ℕ) → IsKept (begun r o)
+  begun_kept r None = tt
+  begun_kept r (Some status) = tt
+
+  one_kept :
+      (n : ℕ) (r : Run V B T P) (q p : Progress V B T P) →
+      Told q →
+      OneMore Step q p →
+      IsKept p →
+      (IsKept q → ManySteps (Continues Step) n r (run_in q)) →
+      ManySteps (Continues Step) (suc n) r (run_in p)
+  one_kept n r (Going u) p told (Went v, step, is) kept so_far =
+      subst (ManySteps (Continues Step) (suc n) r) (sym (ap run_in is ∙ run_in-begun v v.ended))
+      (step_after (Continues Step) n r u v (so_far tt) step)
+  one_kept n r (Going u) p told (Left reason, step, is) kept so_far = absurd (subst IsKept is kept)
+  one_kept n r (Done status u) p told is kept so_far =
+      let step : Continues Step u u = subst (λ o. StepsFrom Step u o (Went u)) (sym told) refl in
+      subst (ManySteps (Continues Step) (suc n) r) (sym (ap run_in is)) (step_after (Continues Step) n r u u (so_far tt) step)
+  one_kept n r (Gone reason u) p told is kept so_far = absurd (subst IsKept is kept)
+
+  kept_steps : (n : ℕ) (r : Run V B T P) (p : Progress V B T P) → Reaches Step n r p → IsKept p → ManySteps (Continues Step) n r (run_in p)
+  kept_steps zero r p is kept = sym (ap run_in is ∙ run_in-begun r r.ended)
+  kept_steps (suc n) r p (q, reaches, more) kept = one_kept n r q p (reached_told n r q reaches) more kept (kept_steps n r q reaches)
+
+  -- A run of so many steps that hasn't left is so many steps that don't leave.
+  pub reached_steps : (n : ℕ) (r u : Run V B T P) → Reaches Step n r (begun u u.ended) → ManySteps (Continues Step) n r u
+  reached_steps n r u h =
+      subst (ManySteps (Continues Step) n r) (run_in-begun u u.ended) (kept_steps n r (begun u u.ended) h (begun_kept u u.ended))
 
   -- a run that is over stays over
   pub over_stays :

@@ -1,5 +1,5 @@
 -- The machine of numbers has one step, and its calls only grow.
-use Rattle.std.proofs.Common.{List, ◌≡◌, ℕ, Bool, true, false, Option, Some, None, refl, sym, ap, ◌∙◌, subst}
+use Rattle.std.proofs.Common.{List, [], drop, ◌≡◌, ℕ, Bool, true, false, Option, Some, None, refl, sym, ap, ◌∙◌, subst}
 use Rattle.power_insns.specs.Operations.{operation_of}
 use Rattle.power_insns.specs.laws.Words.{one_word}
 use Rattle.prefixed_insns.specs.Meaning.{operation_of_pair}
@@ -7,14 +7,16 @@ use Rattle.prefixed_insns.specs.laws.Pairs.{one_pair}
 use Rattle.elf64_exec.specs.declared.layout.Segment.{Segment}
 use Rattle.power_machine.specs.declared.code.Code.{Code}
 use Rattle.power_machine.specs.declared.code.Code.TheVariants.{Unfetched, Unknown, OneWord, TwoWords}
+use Rattle.power_machine.specs.declared.machine.Machine.{Machine}
 use Rattle.power_machine.specs.declared.world.Answer.{Answer}
+use Rattle.power_machine.specs.declared.world.World.{World}
 use Rattle.power_machine.specs.Memory.{Range, within}
 use Rattle.power_machine.specs.Codes.{Stands}
 use Rattle.power_machine.specs.Machines.{Next, Went, state_after}
 use Rattle.power_machine.specs.Numbers.{numbers}
 use Rattle.power_machine.specs.Runs.{StepsFrom, Steps, Grows}
-use Rattle.power_machine.specs.Steps.{NumberRun, NumberProgress, IsStep, ReachesIn, step_over}
-use Rattle.power_machine.specs.Start.{start_ranges, start_run, RunsTo}
+use Rattle.power_machine.specs.Steps.{NumberRun, NumberProgress, IsStep, ReachesIn, step_over, run_of}
+use Rattle.power_machine.specs.Start.{IsStart, start_ranges, start_run, start_state, RunsTo}
 use Rattle.power_machine.specs.laws.Runs.{StepsOnce, one_progress, GrowsBy, no_more, operates_grows}
 
 both : (b : Bool) → b ≡ true → b ≡ false → ⊥
@@ -80,3 +82,24 @@ one_run file input answers n p p' a b =
     let Here = λ (entry : ℕ) (segments : List Segment). ReachesIn (start_ranges segments) n (start_run entry segments input answers) p in
     let here : Here b.entry b.segments = subst (λ l. Here b.entry l) lists (subst (λ e. Here e a.segments) entries a.reaches) in
     one_progress_in (start_ranges b.segments) n (start_run b.entry b.segments input answers) p p' here b.reaches
+
+-- A machine that was loaded, in a world with this input and these answers, is a program at its start.
+pub starts :
+    (m : Machine) (w : World) (entry : ℕ) (segments : List Segment) (input : List ℕ) (answers : List Answer) →
+    IsStart entry segments m →
+    drop w.taken w.input.items ≡ input →
+    drop w.used w.answers.items ≡ answers →
+    run_of m w ≡ start_run entry segments input answers
+starts m w entry segments input answers start given replies =
+    let at = start_state entry segments in
+    ap (λ s. record {
+      state = s;
+      input = drop w.taken w.input.items;
+      answers = drop w.used w.answers.items;
+      events = m.events.items;
+      ended = m.ended;
+    }) start.state
+    ∙ ap (λ i. record { state = at; input = i; answers = drop w.used w.answers.items; events = m.events.items; ended = m.ended }) given
+    ∙ ap (λ a. record { state = at; input = input; answers = a; events = m.events.items; ended = m.ended }) replies
+    ∙ ap (λ e. record { state = at; input = input; answers = answers; events = e; ended = m.ended }) start.events
+    ∙ ap (λ o. record { state = at; input = input; answers = answers; events = []; ended = o }) start.ended

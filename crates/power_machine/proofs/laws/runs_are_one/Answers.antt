@@ -1,6 +1,10 @@
--- A file loads as one program, and each of its steps is one.
-use Rattle.power_machine.specs.laws.Steps.{one_run}
+-- Each step is one, so each run is ..
+use Rattle.power_machine.specs.laws.Steps.{one_progress_in, one_run}
 use Rattle.power_machine.proofs.laws.runs_are_one.Goals as goal
 
-pub returns : goal.returns
-returns c = one_run
+pub returns-clause-runs : goal.returns-clause-runs
+returns-clause-runs c = one_progress_in
+
+-- .. and a file loads as one program.
+pub returns-clause-executables : goal.returns-clause-executables
+returns-clause-executables c = one_run
