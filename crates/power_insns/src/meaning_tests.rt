@@ -5,9 +5,10 @@ use crate::instruction::Insn;
 use crate::meaning::BranchTarget::{Ahead, Through};
 use crate::meaning::Condition::{Always, Bit};
 use crate::meaning::Counter::{Kept, Lowered};
-use crate::meaning::{Operand, Operation, Sign, Width};
+use crate::meaning::{Function, Operand, Operation, Sign, Width};
 use crate::plan::plan_for;
 use crate::uses::{Access, memory, reads, writes};
+use std::test::Fail;
 
 // What a word does.
 fn operation(w: u32) -> Option<Operation> {
@@ -56,149 +57,156 @@ macro_rules! planned {
     };
 }
 
-const MINUS_ONE: u64 = u64::MAX;
-
 const LEAST: u64 = 1 << 63;
 
-#[test]
-fn sums_differences_and_products(rt: HostRuntime) {
-    let table = [
-        // add 3,4,5 wraps; subf 3,4,5 is r5 - r4; neg 3,4
-        (0x7C64_2A14, MINUS_ONE, 3, 2),
-        (0x7C64_2850, 5, 3, MINUS_ONE - 1),
-        (0x7C64_00D0, 1, 0, MINUS_ONE),
-        (0x7C64_00D0, LEAST, 0, LEAST),
-        // addi 3,4,-1; addis 3,4,-1; addi 3,0,-1 and addis 3,0,-32768 read no register
-        (0x3864_FFFF, 0, 0, MINUS_ONE),
-        (0x3C64_FFFF, 0x1_0001, 0, 1),
-        (0x3860_FFFF, 7, 7, MINUS_ONE),
-        (0x3C60_8000, 7, 7, 0xFFFF_FFFF_8000_0000),
-        // mulli 3,4,-5; mullw 3,4,5 takes signed low words; mulld 3,4,5 the low 64 bits
-        (0x1C64_FFFB, 3, 0, 0xFFFF_FFFF_FFFF_FFF1),
-        (0x7C64_29D6, 0x7_FFFF_FFFF, 0x9_0000_0002, MINUS_ONE - 1),
-        (0x7C64_29D2, 0x1_0000_0001, 0x1_0000_0001, 0x2_0000_0001),
-    ];
-    for (w, a, b, want) in table {
-        assert_eq!(rt; calculated(w, a, b), Some(want), "{w:08x}");
-    }
+// What words calculate: the assembly, the word, what r4 and what every other register holds, and the number, or none. `mullw` takes signed low
+// words, `divd` goes towards zero, logic with a number extends no sign, and a mask of `rlwinm` that wraps keeps the rotated word's upper half.
+const NUMBERS: &str = "\
+add 3,4,5          | 7C642A14 | FFFFFFFFFFFFFFFF | 3                | 2
+subf 3,4,5         | 7C642850 | 5                | 3                | FFFFFFFFFFFFFFFE
+neg 3,4            | 7C6400D0 | 1                | 0                | FFFFFFFFFFFFFFFF
+neg 3,4            | 7C6400D0 | 8000000000000000 | 0                | 8000000000000000
+addi 3,4,-1        | 3864FFFF | 0                | 0                | FFFFFFFFFFFFFFFF
+addis 3,4,-1       | 3C64FFFF | 10001            | 0                | 1
+addi 3,0,-1        | 3860FFFF | 7                | 7                | FFFFFFFFFFFFFFFF
+addis 3,0,-32768   | 3C608000 | 7                | 7                | FFFFFFFF80000000
+mulli 3,4,-5       | 1C64FFFB | 3                | 0                | FFFFFFFFFFFFFFF1
+mullw 3,4,5        | 7C6429D6 | 7FFFFFFFF        | 900000002        | FFFFFFFFFFFFFFFE
+mulld 3,4,5        | 7C6429D2 | 100000001        | 100000001        | 200000001
+divd 3,4,5         | 7C642BD2 | FFFFFFFFFFFFFFF9 | 2                | FFFFFFFFFFFFFFFD
+divd 3,4,5         | 7C642BD2 | 7                | FFFFFFFFFFFFFFFE | FFFFFFFFFFFFFFFD
+divd 3,4,5         | 7C642BD2 | 8000000000000000 | 1                | 8000000000000000
+divd 3,4,5         | 7C642BD2 | 7                | 0                | none
+divd 3,4,5         | 7C642BD2 | 8000000000000000 | FFFFFFFFFFFFFFFF | none
+divdu 3,4,5        | 7C642B92 | FFFFFFFFFFFFFFF9 | 2                | 7FFFFFFFFFFFFFFC
+divdu 3,4,5        | 7C642B92 | 8000000000000000 | FFFFFFFFFFFFFFFF | 0
+divdu 3,4,5        | 7C642B92 | 7                | 0                | none
+and 3,4,5          | 7C832838 | C                | A                | 8
+andc 3,4,5         | 7C832878 | C                | A                | 4
+nor 3,4,5          | 7C8328F8 | C                | A                | FFFFFFFFFFFFFFF1
+xor 3,4,5          | 7C832A78 | C                | A                | 6
+or 3,4,5           | 7C832B78 | C                | A                | E
+ori 3,4,0x8001     | 60838001 | 10               | 0                | 8011
+oris 3,4,0x8001    | 64838001 | 10               | 0                | 80010010
+xori 3,4,0x8001    | 68838001 | 1                | 0                | 8000
+xoris 3,4,0x8001   | 6C838001 | 10000            | 0                | 80000000
+andi. 3,4,0x8001   | 70838001 | FFFFFFFFFFFFFFFF | 0                | 8001
+andis. 3,4,0x8001  | 74838001 | FFFFFFFFFFFFFFFF | 0                | 80010000
+extsb 3,4          | 7C830774 | 180              | 0                | FFFFFFFFFFFFFF80
+extsh 3,4          | 7C830734 | 17FFF            | 0                | 7FFF
+extsw 3,4          | 7C8307B4 | 80000000         | 0                | FFFFFFFF80000000
+slw 3,4,5          | 7C832830 | FFFFFFFF00000003 | 1F               | 80000000
+slw 3,4,5          | 7C832830 | 3                | 20               | 0
+slw 3,4,5          | 7C832830 | 3                | 40               | 3
+srw 3,4,5          | 7C832C30 | FFFFFFFF80000000 | 1F               | 1
+srw 3,4,5          | 7C832C30 | 80000000         | 20               | 0
+srw 3,4,5          | 7C832C30 | 80000000         | 40               | 80000000
+sld 3,4,5          | 7C832836 | 3                | 3F               | 8000000000000000
+sld 3,4,5          | 7C832836 | 3                | 40               | 0
+sld 3,4,5          | 7C832836 | 3                | 80               | 3
+srd 3,4,5          | 7C832C36 | 8000000000000000 | 3F               | 1
+srd 3,4,5          | 7C832C36 | 8000000000000000 | 7F               | 0
+srd 3,4,5          | 7C832C36 | 8000000000000000 | 80               | 8000000000000000
+rlwinm 3,4,7,30,2  | 54833F84 | 123456789ABCDEF  | 0                | D5E6F7C4C0000000
+rlwinm 3,4,31,0,31 | 5483F83E | 3                | 0                | 80000001
+rlwinm 3,4,0,24,31 | 5483063E | FFFFFFFFFFFFFFAB | 0                | AB
+rldicl 3,4,4,60    | 78832720 | A000000000000000 | 0                | A
+rldicl 3,4,0,32    | 78830020 | 123456789ABCDEF0 | 0                | 9ABCDEF0
+rldicl 3,4,33,34   | 788308A2 | 8000000080000001 | 0                | 1
+rldicr 3,4,8,55    | 788345E4 | 123456789ABCDEF0 | 0                | 3456789ABCDEF000
+rldicr 3,4,40,31   | 788347C6 | 123456789ABCDEF0 | 0                | BCDEF01200000000";
+
+// What words compare to, in the same columns.
+const ORDERS: &str = "\
+cmpd 4,5        | 7C242800 | FFFFFFFFFFFFFFFF | 1 | less
+cmpld 4,5       | 7C242840 | FFFFFFFFFFFFFFFF | 1 | greater
+cmpw 4,5        | 7C042800 | 1FFFFFFFF        | 0 | less
+cmplw 4,5       | 7C042840 | 700000001        | 1 | equal
+cmpwi 4,-1      | 2C04FFFF | FFFFFFFF         | 0 | equal
+cmpdi 4,-1      | 2C24FFFF | FFFFFFFF         | 0 | greater
+cmplwi 4,0xFFFF | 2804FFFF | 30000FFFF        | 0 | equal
+cmpldi 4,0xFFFF | 2824FFFF | 30000FFFF        | 0 | greater";
+
+// What words use: the registers that they read and that they write, a bit each, and what they do with memory.
+const USES: &str = "\
+add 3,4,5         | 7C642A14 | 30   | 8        | none
+divd 3,4,5        | 7C642BD2 | 30   | 8        | none
+cmpd 1,3,4        | 7CA32000 | 18   | 0        | none
+li 3,1            | 38600001 | 0    | 8        | none
+rlwinm 5,6,7,30,2 | 54C53F84 | 40   | 20       | none
+mr 31,3           | 7C7F1B78 | 8    | 80000000 | none
+nop               | 60000000 | 1    | 1        | none
+mflr 0            | 7C0802A6 | 0    | 1        | none
+mtctr 12          | 7D8903A6 | 1000 | 0        | none
+bctrl             | 4E800421 | 0    | 0        | none
+sc                | 44000002 | 39   | 8        | none
+lwz 3,8(9)        | 80690008 | 200  | 8        | load
+ld 3,8(0)         | E8600008 | 0    | 8        | load
+lwzx 3,0,5        | 7C60282E | 20   | 8        | load
+lhax 3,4,5        | 7C642AAE | 30   | 8        | load
+stb 9,0(0)        | 99200000 | 200  | 0        | store
+std 2,24(1)       | F8410018 | 6    | 0        | store
+stdu 1,-32(1)     | F821FFE1 | 2    | 2        | store
+stwx 3,4,5        | 7C64292E | 38   | 0        | store";
+
+#[derive(Clone, Copy)]
+struct Row<'a> {
+    word: u32,
+    first: u64,
+    second: u64,
+    wanted: &'a str,
+}
+
+// The row of a line, whose first column is the assembly.
+fn row_of(line: &str) -> Result<Row<'_>, Fail> {
+    let mut columns = line.split('|').skip(1);
+    let word = columns.next().ok_or("a word is wanted")?.trim();
+    let first = columns.next().ok_or("a number is wanted")?.trim();
+    let second = columns.next().ok_or("a number is wanted")?.trim();
+    let wanted = columns.next().ok_or("what is wanted")?.trim();
+    Ok(Row {
+        word: u32::from_str_radix(word, 16)?,
+        first: u64::from_str_radix(first, 16)?,
+        second: u64::from_str_radix(second, 16)?,
+        wanted,
+    })
 }
 
 #[test]
-fn divisions_and_where_they_are_not_defined(rt: HostRuntime) {
-    let table = [
-        // divd 3,4,5 goes towards zero
-        (0x7C64_2BD2, MINUS_ONE - 6, 2, Some(MINUS_ONE - 2)),
-        (0x7C64_2BD2, 7, MINUS_ONE - 1, Some(MINUS_ONE - 2)),
-        (0x7C64_2BD2, LEAST, 1, Some(LEAST)),
-        (0x7C64_2BD2, 7, 0, None),
-        (0x7C64_2BD2, LEAST, MINUS_ONE, None),
-        // divdu 3,4,5
-        (0x7C64_2B92, MINUS_ONE - 6, 2, Some(0x7FFF_FFFF_FFFF_FFFC)),
-        (0x7C64_2B92, LEAST, MINUS_ONE, Some(0)),
-        (0x7C64_2B92, 7, 0, None),
-    ];
-    for (w, a, b, want) in table {
-        assert_eq!(rt; calculated(w, a, b), want, "{w:08x}");
+fn words_calculate_numbers(rt: HostRuntime) -> Result<(), Fail> {
+    for line in NUMBERS.lines() {
+        let row = row_of(line)?;
+        let wanted = if row.wanted == "none" {
+            None
+        } else {
+            Some(u64::from_str_radix(row.wanted, 16)?)
+        };
+        assert_eq!(rt;
+            calculated(row.word, row.first, row.second),
+            wanted,
+            "{line}"
+        );
     }
+    Ok(())
 }
 
 #[test]
-fn logic_bit_by_bit(rt: HostRuntime) {
-    let table = [
-        // and, andc, nor, xor, or 3,4,5
-        (0x7C83_2838, 0b1100, 0b1010, 0b1000),
-        (0x7C83_2878, 0b1100, 0b1010, 0b0100),
-        (0x7C83_28F8, 0b1100, 0b1010, 0xFFFF_FFFF_FFFF_FFF1),
-        (0x7C83_2A78, 0b1100, 0b1010, 0b0110),
-        (0x7C83_2B78, 0b1100, 0b1010, 0b1110),
-        // ori, oris, xori, xoris, andi. and andis. 3,4,0x8001 extend no sign
-        (0x6083_8001, 0x10, 0, 0x8011),
-        (0x6483_8001, 0x10, 0, 0x8001_0010),
-        (0x6883_8001, 1, 0, 0x8000),
-        (0x6C83_8001, 0x1_0000, 0, 0x8000_0000),
-        (0x7083_8001, MINUS_ONE, 0, 0x8001),
-        (0x7483_8001, MINUS_ONE, 0, 0x8001_0000),
-        // extsb, extsh, extsw 3,4
-        (0x7C83_0774, 0x180, 0, 0xFFFF_FFFF_FFFF_FF80),
-        (0x7C83_0734, 0x1_7FFF, 0, 0x7FFF),
-        (0x7C83_07B4, 0x8000_0000, 0, 0xFFFF_FFFF_8000_0000),
-    ];
-    for (w, a, b, want) in table {
-        assert_eq!(rt; calculated(w, a, b), Some(want), "{w:08x}");
+fn comparisons_of_words_and_doublewords(rt: HostRuntime) -> Result<(), Fail> {
+    for line in ORDERS.lines() {
+        let row = row_of(line)?;
+        let wanted = [
+            row.wanted == "less",
+            row.wanted == "greater",
+            row.wanted == "equal",
+            false,
+        ];
+        assert_eq!(rt;
+            compared(row.word, row.first, row.second),
+            Some(wanted),
+            "{line}"
+        );
     }
-}
-
-#[test]
-fn shifts_by_six_and_seven_bits(rt: HostRuntime) {
-    let table = [
-        // slw 3,4,5
-        (0x7C83_2830, 0xFFFF_FFFF_0000_0003, 31, 0x8000_0000),
-        (0x7C83_2830, 3, 32, 0),
-        (0x7C83_2830, 3, 64, 3),
-        // srw 3,4,5
-        (0x7C83_2C30, 0xFFFF_FFFF_8000_0000, 31, 1),
-        (0x7C83_2C30, 0x8000_0000, 32, 0),
-        (0x7C83_2C30, 0x8000_0000, 64, 0x8000_0000),
-        // sld 3,4,5
-        (0x7C83_2836, 3, 63, LEAST),
-        (0x7C83_2836, 3, 64, 0),
-        (0x7C83_2836, 3, 128, 3),
-        // srd 3,4,5
-        (0x7C83_2C36, LEAST, 63, 1),
-        (0x7C83_2C36, LEAST, 127, 0),
-        (0x7C83_2C36, LEAST, 128, LEAST),
-    ];
-    for (w, a, b, want) in table {
-        assert_eq!(rt; calculated(w, a, b), Some(want), "{w:08x}");
-    }
-}
-
-#[test]
-fn rotations_and_masks_that_wrap(rt: HostRuntime) {
-    let table = [
-        // rlwinm 3,4,7,30,2: the mask wraps, so the upper half keeps the rotated word
-        (0x5483_3F84, 0x0123_4567_89AB_CDEF, 0xD5E6_F7C4_C000_0000),
-        // rlwinm 3,4,31,0,31; rlwinm 3,4,0,24,31
-        (0x5483_F83E, 3, 0x8000_0001),
-        (0x5483_063E, 0xFFFF_FFFF_FFFF_FFAB, 0xAB),
-        // rldicl 3,4,4,60; rldicl 3,4,0,32; rldicl 3,4,33,30
-        (0x7883_2720, 0xA000_0000_0000_0000, 0xA),
-        (0x7883_0020, 0x1234_5678_9ABC_DEF0, 0x9ABC_DEF0),
-        (
-            0x7883_08A2,
-            0x8000_0000_0000_0001,
-            0x1_0000_0000 % 0x4000_0000,
-        ),
-        // rldicr 3,4,8,55; rldicr 3,4,40,31
-        (0x7883_45E4, 0x1234_5678_9ABC_DEF0, 0x3456_789A_BCDE_F000),
-        (0x7883_47C6, 0x1234_5678_9ABC_DEF0, 0xBCDE_F012_0000_0000),
-    ];
-    for (w, a, want) in table {
-        assert_eq!(rt; calculated(w, a, 0), Some(want), "{w:08x}");
-    }
-}
-
-#[test]
-fn comparisons_of_words_and_doublewords(rt: HostRuntime) {
-    let less = [true, false, false, false];
-    let greater = [false, true, false, false];
-    let equal = [false, false, true, false];
-    let table = [
-        // cmpd 4,5 and cmpld 4,5
-        (0x7C24_2800, MINUS_ONE, 1, less),
-        (0x7C24_2840, MINUS_ONE, 1, greater),
-        // cmpw 4,5 and cmplw 4,5 look at the low words alone
-        (0x7C04_2800, 0x1_FFFF_FFFF, 0, less),
-        (0x7C04_2840, 0x7_0000_0001, 1, equal),
-        // cmpwi 4,-1; cmpdi 4,-1; cmplwi 4,0xFFFF; cmpldi 4,0xFFFF
-        (0x2C04_FFFF, 0xFFFF_FFFF, 0, equal),
-        (0x2C24_FFFF, 0xFFFF_FFFF, 0, greater),
-        (0x2804_FFFF, 0x3_0000_FFFF, 0, equal),
-        (0x2824_FFFF, 0x3_0000_FFFF, 0, greater),
-    ];
-    for (w, a, b, want) in table {
-        assert_eq!(rt; compared(w, a, b), Some(want), "{w:08x}");
-    }
+    Ok(())
 }
 
 #[test]
@@ -212,12 +220,12 @@ fn results_compared_with_zero(rt: HostRuntime) {
         compare(Width::Long, Sign::Signed, LEAST, 0),
         [true, false, false, false]
     );
-    // add. 3,4,5; andi. 3,4,1; divd. 3,4,5; add 3,4,5
+    // add. 3,4,5; andi. 3,4,1; divd. 3,4,5; add 3,4,5, whose sum is its own
     planned! { rt;
-        0x7C64_2A15 => Operation::Calculate { rc: true, .. },
+        0x7C64_2A15 => Operation::Calculate { function: Function::Sum, rc: true, .. },
         0x7083_0001 => Operation::Calculate { rc: true, .. },
         0x7C64_2BD3 => Operation::Divide { rc: true, .. },
-        0x7C64_2A14 => Operation::Calculate { rc: false, .. },
+        0x7C64_2A14 => Operation::Calculate { function: Function::RegisterSum, rc: false, .. },
     }
 }
 
@@ -303,49 +311,29 @@ fn copies_keep_what_they_copy(rt: HostRuntime) {
     assert_eq!(rt; calculated(0x6483_0000, 7, 7), Some(7));
 }
 
+// What an instruction does with memory, by its name.
+fn access_of(name: &str) -> Access {
+    match name {
+        "load" => Access::Load,
+        "store" => Access::Store,
+        _ => Access::None,
+    }
+}
+
 #[test]
-fn registers_read_and_written(rt: HostRuntime) {
-    // a word; the registers that it reads and writes, a bit each; what it does with memory
-    let table = [
-        // add 3,4,5; divd 3,4,5; cmpd 1,3,4; li 3,1; rlwinm 5,6,7,30,2
-        (0x7C64_2A14, 0x30, 0x8, Access::None),
-        (0x7C64_2BD2, 0x30, 0x8, Access::None),
-        (0x7CA3_2000, 0x18, 0, Access::None),
-        (0x3860_0001, 0, 0x8, Access::None),
-        (0x54C5_3F84, 0x40, 0x20, Access::None),
-        // mr 31,3; nop; mflr 0; mtctr 12; bctrl; sc
-        (0x7C7F_1B78, 0x8, 0x8000_0000, Access::None),
-        (0x6000_0000, 1, 1, Access::None),
-        (0x7C08_02A6, 0, 1, Access::None),
-        (0x7D89_03A6, 0x1000, 0, Access::None),
-        (0x4E80_0421, 0, 0, Access::None),
-        (0x4400_0002, 0x39, 0x8, Access::None),
-        // lwz 3,8(9); ld 3,8(0); lwzx 3,0,5; lhax 3,4,5
-        (0x8069_0008, 0x200, 0x8, Access::Load),
-        (0xE860_0008, 0, 0x8, Access::Load),
-        (0x7C60_282E, 0x20, 0x8, Access::Load),
-        (0x7C64_2AAE, 0x30, 0x8, Access::Load),
-        // stb 9,0(0); std 2,24(1); stdu 1,-32(1); stwx 3,4,5
-        (0x9920_0000, 0x200, 0, Access::Store),
-        (0xF841_0018, 0x6, 0, Access::Store),
-        (0xF821_FFE1, 0x2, 0x2, Access::Store),
-        (0x7C64_292E, 0x38, 0, Access::Store),
-    ];
-    for (w, read, written, access) in table {
-        if let Some(insn) = decode(w) {
-            assert_eq!(rt; memory(&insn), access, "{w:08x}");
-            for r in 0..40 {
-                assert_eq!(rt;
-                    reads(&insn, r),
-                    1u64 << r & read != 0,
-                    "{w:08x} reads r{r}"
-                );
-                assert_eq!(rt;
-                    writes(&insn, r),
-                    1u64 << r & written != 0,
-                    "{w:08x} writes r{r}"
-                );
-            }
+fn registers_read_and_written(rt: HostRuntime) -> Result<(), Fail> {
+    for line in USES.lines() {
+        let row = row_of(line)?;
+        let insn = decode(row.word).ok_or("an instruction is wanted")?;
+        assert_eq!(rt; memory(&insn), access_of(row.wanted), "{line}");
+        for r in 0..40 {
+            assert_eq!(rt; reads(&insn, r), 1u64 << r & row.first != 0, "{line}: r{r}");
+            assert_eq!(rt;
+                writes(&insn, r),
+                1u64 << r & row.second != 0,
+                "{line}: r{r}"
+            );
         }
     }
+    Ok(())
 }

@@ -2,6 +2,7 @@
 use crate::decoding::decode;
 use crate::forms::{Form, again};
 use crate::instruction::Insn;
+use std::test::Fail;
 
 // Each word is decoded to its instruction.
 macro_rules! spelled {
@@ -115,70 +116,64 @@ fn logic_of_registers(rt: HostRuntime) {
     }
 }
 
+// A word, and the bits of which each alone makes it another form: a reserved bit, one that another extended opcode has, the absolute bit of a
+// branch, another special register.
+const OTHERS: &str = "\
+cmpli                                     | 2804FFFF | 00400000
+cmpi                                      | 2C04FFFF | 00400000
+bc                                        | 4182FFF8 | 00000002
+b                                         | 48000008 | 00000002
+sc                                        | 44000002 | 03FFFFFF
+bclr                                      | 4E800020 | 0000E000
+bcctr, where BO may not ask to lower CTR  | 4E800420 | 0080E000
+rldicl                                    | 78830020 | 00000018
+rldicr                                    | 788345E4 | 00000018
+cmp                                       | 7C042800 | 00400001
+cmpl                                      | 7C042840 | 00400001
+add, whose form with overflow is left out | 7C642A14 | 00000400
+subf                                      | 7C642850 | 00000400
+neg                                       | 7C6400D0 | 0000FC00
+mullw                                     | 7C6429D6 | 00000400
+mulld                                     | 7C6429D2 | 00000400
+divd                                      | 7C642BD2 | 00000400
+divdu                                     | 7C642B92 | 00000400
+extsb                                     | 7C830774 | 0000F800
+extsh                                     | 7C830734 | 0000F800
+extsw                                     | 7C8307B4 | 0000F800
+ldx                                       | 7C64282A | 00000001
+lwzx                                      | 7C64282E | 00000001
+lbzx                                      | 7C6428AE | 00000001
+lhzx                                      | 7C642A2E | 00000001
+lhax                                      | 7C642AAE | 00000001
+lwax                                      | 7C642AAA | 00000001
+stdx                                      | 7C64292A | 00000001
+stwx                                      | 7C64292E | 00000001
+stbx                                      | 7C6429AE | 00000001
+sthx                                      | 7C642B2E | 00000001
+mfspr                                     | 7C0802A6 | 001EF801
+mtspr                                     | 7D8903A6 | 001EF801
+ld                                        | E8410018 | 00000001
+lwa                                       | E864FFFE | 00000001
+std                                       | F8410018 | 00000002
+stdu, whose RA may not be 0               | F821FFE1 | 00010002
+lwz, under primary opcode 33              | 80690008 | 04000000
+addi, under primary opcode 6              | 3821FFE0 | 20000000";
+
 #[test]
-fn a_word_of_another_form_is_none(rt: HostRuntime) {
-    // a word, and the bits of which each alone makes it another form: a reserved bit, one that another extended opcode has, the
-    // absolute bit of a branch, another special register
-    let table: [(u32, u32); 39] = [
-        // cmpli, cmpi, bc, b, sc, bclr; bcctr, of which BO may not ask to lower CTR
-        (0x2804_FFFF, 0x0040_0000),
-        (0x2C04_FFFF, 0x0040_0000),
-        (0x4182_FFF8, 0x0000_0002),
-        (0x4800_0008, 0x0000_0002),
-        (0x4400_0002, 0x03FF_FFFF),
-        (0x4E80_0020, 0x0000_E000),
-        (0x4E80_0420, 0x0080_E000),
-        // rldicl, rldicr
-        (0x7883_0020, 0x0000_0018),
-        (0x7883_45E4, 0x0000_0018),
-        // cmp, cmpl
-        (0x7C04_2800, 0x0040_0001),
-        (0x7C04_2840, 0x0040_0001),
-        // add, subf, neg, mullw, mulld, divd, divdu, whose forms with overflow are left out
-        (0x7C64_2A14, 0x0000_0400),
-        (0x7C64_2850, 0x0000_0400),
-        (0x7C64_00D0, 0x0000_FC00),
-        (0x7C64_29D6, 0x0000_0400),
-        (0x7C64_29D2, 0x0000_0400),
-        (0x7C64_2BD2, 0x0000_0400),
-        (0x7C64_2B92, 0x0000_0400),
-        // extsb, extsh, extsw
-        (0x7C83_0774, 0x0000_F800),
-        (0x7C83_0734, 0x0000_F800),
-        (0x7C83_07B4, 0x0000_F800),
-        // ldx, lwzx, lbzx, lhzx, lhax, lwax, stdx, stwx, stbx, sthx
-        (0x7C64_282A, 0x0000_0001),
-        (0x7C64_282E, 0x0000_0001),
-        (0x7C64_28AE, 0x0000_0001),
-        (0x7C64_2A2E, 0x0000_0001),
-        (0x7C64_2AAE, 0x0000_0001),
-        (0x7C64_2AAA, 0x0000_0001),
-        (0x7C64_292A, 0x0000_0001),
-        (0x7C64_292E, 0x0000_0001),
-        (0x7C64_29AE, 0x0000_0001),
-        (0x7C64_2B2E, 0x0000_0001),
-        // mfspr, mtspr
-        (0x7C08_02A6, 0x001E_F801),
-        (0x7D89_03A6, 0x001E_F801),
-        // ld, lwa, std; stdu, whose RA may not be 0
-        (0xE841_0018, 0x0000_0001),
-        (0xE864_FFFE, 0x0000_0001),
-        (0xF841_0018, 0x0000_0002),
-        (0xF821_FFE1, 0x0001_0002),
-        // lwz and addi, under primary opcodes 33 and 6
-        (0x8069_0008, 0x0400_0000),
-        (0x3821_FFE0, 0x2000_0000),
-    ];
-    for (w, others) in table {
+fn a_word_of_another_form_is_none(rt: HostRuntime) -> Result<(), Fail> {
+    for line in OTHERS.lines() {
+        let mut columns = line.split('|').skip(1);
+        let word = columns.next().ok_or("a word is wanted")?.trim();
+        let others = columns.next().ok_or("bits are wanted")?.trim();
+        let word = u32::from_str_radix(word, 16)?;
+        let others = u32::from_str_radix(others, 16)?;
         for place in 0..32u32 {
             if others >> place & 1 == 1 {
-                assert!(rt;
-                    decode(w ^ 1 << place).is_none(),
-                    "{w:08x} with bit {place}"
-                );
+                assert!(rt; decode(word ^ 1 << place).is_none(), "{line}: bit {place}");
             }
         }
     }
+    Ok(())
 }
 
 #[test]

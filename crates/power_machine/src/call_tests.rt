@@ -119,50 +119,30 @@ fn a_write_is_answered_whole_short_and_by_error(rt: HostRuntime) -> Result<(), F
     Ok(())
 }
 
+// Calls of length 0, then an exit with what they gave: the answer in the third column, and the address of the range.
+const EMPTY: &str = "\
+li r0,3; li r3,1; li r4,-1; li r5,0; sc; li r0,1; sc     | 38000003 38600001 3880FFFF 38A00000 44000002 38000001 44000002 | whole   | FFFFFFFFFFFFFFFF
+li r0,3; li r3,1; li r4,0x1040; li r5,0; sc; li r0,1; sc | 38000003 38600001 38801040 38A00000 44000002 38000001 44000002 | short 2 | 1040
+li r0,4; li r3,1; li r4,0; li r5,0; sc; li r0,1; sc      | 38000004 38600001 38800000 38A00000 44000002 38000001 44000002 | whole   | 0
+li r0,4; li r3,1; li r4,-1; li r5,0; sc; li r0,1; sc     | 38000004 38600001 3880FFFF 38A00000 44000002 38000001 44000002 | error 5 | FFFFFFFFFFFFFFFF";
+
 #[test]
 fn a_call_of_length_0_may_have_any_address(rt: HostRuntime) -> Result<(), Fail> {
-    for (words, answers, number, address, error, status) in [
-        // li r0,3; li r3,1; li r4,-1; li r5,0; sc; li r0,1; sc
-        (
-            "38000003 38600001 3880FFFF 38A00000 44000002 38000001 44000002",
-            "whole",
-            3,
-            u64::MAX,
-            0,
-            0,
-        ),
-        // the same at the start of text, where nothing may be stored
-        (
-            "38000003 38600001 38801040 38A00000 44000002 38000001 44000002",
-            "short 2",
-            3,
-            0x1040,
-            0,
-            0,
-        ),
-        // li r0,4; li r3,1; li r4,0; li r5,0; sc; li r0,1; sc
-        (
-            "38000004 38600001 38800000 38A00000 44000002 38000001 44000002",
-            "whole",
-            4,
-            0,
-            0,
-            0,
-        ),
-        // the same at -1
-        (
-            "38000004 38600001 3880FFFF 38A00000 44000002 38000001 44000002",
-            "error 5",
-            4,
-            u64::MAX,
-            5,
-            5,
-        ),
-    ] {
-        let mut machine = Machine::load(rt.alloc(), program(rt.alloc(), [0, 0], &[words])?)?;
-        let mut world = world(rt.alloc(), "hi\n", answers)?;
-        assert_eq!(rt; machine.run(99, &mut world), Outcome::Exited(status));
-        all_are(&rt, machine.events(), &[(number, 1, address, 0, "", error)]);
+    for line in EMPTY.lines() {
+        let row = row_of(line)?;
+        let segments = program(rt.alloc(), [0, 0], &[row.words])?;
+        let mut machine = Machine::load(rt.alloc(), segments)?;
+        let mut world = world(rt.alloc(), "hi\n", row.given)?;
+        let outcome = machine.run(99, &mut world);
+        let event = machine.events().last().ok_or("an event is wanted")?;
+        assert_eq!(rt;
+            outcome,
+            Outcome::Exited((event.error % 256) as u8),
+            "{line}"
+        );
+        assert_eq!(rt; event.address, number_of(row.wanted)?, "{line}");
+        assert_eq!(rt; event.length, 0, "{line}");
+        assert_eq!(rt; event.bytes.as_slice().len(), 0, "{line}");
     }
     Ok(())
 }

@@ -26,7 +26,7 @@ pub fn steps_are_one()
 pub fn runs_are_one()
     ensures runs { (ranges : List Range) (n : ℕ) (r : NumberRun) (p q : NumberProgress) →
         ReachesIn ranges n r p → ReachesIn ranges n r q → p ≡ q }
-    ensures executables { (file input : List ℕ) (answers : List Answer) (n : ℕ) (p q : NumberProgress) →
+    ensures files { (file input : List ℕ) (answers : List Answer) (n : ℕ) (p q : NumberProgress) →
         RunsTo file input answers n p → RunsTo file input answers n q → p ≡ q }
 {}
 

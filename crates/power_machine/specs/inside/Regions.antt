@@ -7,7 +7,8 @@ use Rattle.power_machine.specs.declared.memory.Purpose.{Purpose}
 use Rattle.power_machine.specs.declared.memory.Purpose.TheVariants.{Loading}
 use Rattle.power_machine.specs.declared.memory.Region.{Region}
 use Rattle.power_machine.specs.Bytes.{spelled}
-use Rattle.power_machine.specs.Memory.{Permission, holds, range_of, ranges_of, stop_of, byte_at, bytes_from, put, allows, allows_range, within}
+use Rattle.power_machine.specs.Memory.{Permission, holds, range_of, ranges_of, stop_of, byte_at, bytes_from, put, allows, allows_range}
+use Rattle.power_machine.specs.Memory.{within}
 
 -- the regions end at or below 2^31, are in order of their addresses, and none overlaps another
 pub record InOrder (regions : List Region) : Type 0 where
@@ -42,7 +43,8 @@ permitted regions = within (ranges_of regions)
 -- the number at an address, where it may be used
 abbrev pub number_read : Purpose → ℕ → Width → List Region → Option ℕ
 number_read purpose at width regions =
-    if allows purpose at (bytes_of width) (ranges_of regions) then Some (spelled (bytes_from (byte_at regions) at (bytes_of width))) else None
+    if allows purpose at (bytes_of width) (ranges_of regions) then Some (spelled (bytes_from (byte_at regions) at (bytes_of width))) else
+    None
 
 -- the first bytes at an address, where so many may be loaded
 abbrev pub bytes_read : ℕ → ℕ → ℕ → List Region → Option (List ℕ)
@@ -50,7 +52,8 @@ bytes_read at room count regions = if allows Loading at room (ranges_of regions)
 
 -- the first bytes of a call's range
 abbrev pub range_read : ℕ → ℕ → ℕ → List Region → Option (List ℕ)
-range_read at room count regions = if allows_range (permitted regions) Loading at room then Some (bytes_from (byte_at regions) at count) else None
+range_read at room count regions =
+    if allows_range (permitted regions) Loading at room then Some (bytes_from (byte_at regions) at count) else None
 
 -- these bytes are at an address now, and all others stay
 abbrev pub Puts : List Region → List Region → ℕ → List ℕ → Type 0

@@ -6,5 +6,5 @@ pub returns-clause-runs : goal.returns-clause-runs
 returns-clause-runs c = one_progress_in
 
 -- .. and a file loads as one program.
-pub returns-clause-executables : goal.returns-clause-executables
-returns-clause-executables c = one_run
+pub returns-clause-files : goal.returns-clause-files
+returns-clause-files c = one_run
