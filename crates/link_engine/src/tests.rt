@@ -2,132 +2,136 @@
 ghost use Rattle.std.specs.Prelude.{◌≡◌, ◌<◌};
 
 use crate::{FileBytes, Linked, Options, Refusal, Steps, link};
-use std::alloc::{AllocError, Global};
+use elf64_exec::{IMAGE_START, PAGE, read_exec};
+use elf64_records::constants::{SHN_COMMON, SHN_UNDEF};
+use object_builder::{FileHeader, Object, Record, Section, Symbol};
+use ppc_bytes::Memory;
+use std::alloc::Global;
 use std::marker::Brand;
 use std::sync::ledger::{Blank, Ledger};
 use std::test::Fail;
 
-/// Bytes, and the place in a file where they stand.
-type Part = (usize, &'static [u8]);
+/// The words 38000001, 38600007 and 44000002: `li r0,1`, `li r3,7`, `sc`.
+const EXIT_7: &[u8] = b"\x01\x00\x00\x38\x07\x00\x60\x38\x02\x00\x00\x44";
 
-/// A file of 496 bytes with a text section of three instructions and one symbol, the global function `_start`.
-const SMALL: [Part; 35] = [
-    (0, b"\x7fELF\x02\x01\x01"),
-    (16, b"\x01\x00\x15\x00\x01"),
-    (40, b"\xb0"),
-    (48, b"\x02"),
-    (52, b"\x40"),
-    (58, b"\x40\x00\x05\x00\x04"),
-    (64, b"\x01\x00\x00\x38\x07\x00\x60\x38\x02\x00\x00\x44"),
-    (104, b"\x01\x00\x00\x00\x12\x00\x01\x00"),
-    (120, b"\x0c"),
-    (129, b"_start"),
-    (137, b".text\x00.symtab\x00.strtab\x00.shstrtab"),
-    (240, b"\x01"),
-    (244, b"\x01"),
-    (248, b"\x06"),
-    (264, b"\x40"),
-    (272, b"\x0c"),
-    (288, b"\x04"),
-    (304, b"\x07"),
-    (308, b"\x02"),
-    (328, b"\x50"),
-    (336, b"\x30"),
-    (344, b"\x03"),
-    (348, b"\x01"),
-    (352, b"\x08"),
-    (360, b"\x18"),
-    (368, b"\x0f"),
-    (372, b"\x03"),
-    (392, b"\x80"),
-    (400, b"\x08"),
-    (416, b"\x01"),
-    (432, b"\x17"),
-    (436, b"\x03"),
-    (456, b"\x88"),
-    (464, b"\x21"),
-    (480, b"\x01"),
-];
+const TEXT: Section<'static> = Section {
+    bytes: EXIT_7,
+    ..Section::TEXT
+};
 
-/// The small file as it is.
-const WHOLE: &[Part] = &[];
+/// The same, but not kept.
+const DROPPED_TEXT: Section<'static> = Section { flags: 0, ..TEXT };
 
-/// Its function is 4 bytes into the text.
-const AT_FOUR: &[Part] = &[(112, b"\x04")];
+const RECORD: Record = Record {
+    offset: 0,
+    kind: 0,
+    symbol: 0,
+    addend: 0,
+};
 
-/// Its text has the alignment 8.
-const ALIGNED: &[Part] = &[(288, b"\x08")];
+/// One text section, and the function `_start` at its front.
+const WHOLE: Object<'static> = Object {
+    sections: &[TEXT],
+    symbols: &[Symbol::START],
+    ..Object::EMPTY
+};
 
-/// Its text isn't kept, so that its symbol only refers to the name.
-const DROPPED: &[Part] = &[(248, b"\x00")];
+/// The function is 4 bytes into the text.
+const AT_FOUR: Object<'static> = Object {
+    symbols: &[Symbol {
+        value: 4,
+        ..Symbol::START
+    }],
+    ..WHOLE
+};
 
-/// Its symbol is LOCAL.
-const LOCAL: &[Part] = &[(108, b"\x02")];
+/// The text has the alignment 8.
+const ALIGNED: Object<'static> = Object {
+    sections: &[Section { align: 8, ..TEXT }],
+    ..WHOLE
+};
 
-/// Its text isn't kept, and its symbol is a common of alignment 4.
-const COMMON: &[Part] = &[(248, b"\x00"), (110, b"\xf2\xff\x04")];
+/// The text isn't kept, so that the symbol only refers to its name.
+const DROPPED: Object<'static> = Object {
+    sections: &[DROPPED_TEXT],
+    ..WHOLE
+};
 
-/// Its symbol has the name of the text section, and section 3 holds one record, of the text.
-const RECORDS: &[Part] = &[
-    (344, b"\x04"),
-    (372, b"\x04"),
-    (392, b"\xb0"),
-    (400, b"\x18"),
-    (408, b"\x02\x00\x00\x00\x01"),
-    (424, b"\x18"),
-];
+/// The symbol is LOCAL.
+const LOCAL: Object<'static> = Object {
+    symbols: &[Symbol {
+        info: 2,
+        ..Symbol::START
+    }],
+    ..WHOLE
+};
 
-/// The same, but that the record is one of the symbol table, which isn't kept.
-const OTHER_RECORDS: &[Part] = &[
-    (344, b"\x04"),
-    (372, b"\x04"),
-    (392, b"\xb0"),
-    (400, b"\x18"),
-    (408, b"\x02\x00\x00\x00\x02"),
-    (424, b"\x18"),
-];
+/// `_start` is a common of alignment 4.
+const COMMON: Object<'static> = Object {
+    sections: &[DROPPED_TEXT],
+    symbols: &[Symbol {
+        section: SHN_COMMON,
+        value: 4,
+        ..Symbol::START
+    }],
+    ..Object::EMPTY
+};
 
-/// Its symbol has the name of the text section, and section 3 is kept data.
-const DATA: &[Part] = &[(344, b"\x04"), (372, b"\x01"), (376, b"\x02")];
+/// A record of the text.
+const RECORDS: Object<'static> = Object {
+    sections: &[Section {
+        records: &[RECORD],
+        ..TEXT
+    }],
+    ..WHOLE
+};
 
-/// Its symbol has the name of the text section, and section 3 is text too.
-const MORE_TEXT: &[Part] = &[(344, b"\x04"), (372, b"\x01"), (376, b"\x06")];
+/// A record of a section that isn't kept.
+const OTHER_RECORDS: Object<'static> = Object {
+    sections: &[
+        TEXT,
+        Section {
+            records: &[RECORD],
+            ..DROPPED_TEXT
+        },
+    ],
+    ..WHOLE
+};
 
-/// It doesn't begin as an ELF file does.
-const FOREIGN: &[Part] = &[(0, b"\x7fELG")];
+/// Kept data beside the text.
+const DATA: Object<'static> = Object {
+    sections: &[TEXT, Section::DATA],
+    ..WHOLE
+};
 
-fn put(b: &mut [u8], at: usize, bytes: &[u8]) {
-    for (k, byte) in bytes.iter().enumerate() {
-        if k < b.len() && at < b.len() - k {
-            b[at + k] = *byte;
-        }
-    }
-}
+/// Text beside the text.
+const MORE_TEXT: Object<'static> = Object {
+    sections: &[TEXT, TEXT],
+    ..WHOLE
+};
 
-fn filled(alloc: Global, size: usize, parts: &[Part]) -> Result<Vec<u8>, AllocError> {
-    let mut bytes = Vec::new(alloc);
-    bytes.resize(size, 0)?;
-    for (at, part) in parts {
-        put(&mut bytes, *at, part);
-    }
-    Ok(bytes)
-}
+/// Data alone, beside an undefined `_start`.
+const ONLY_DATA: Object<'static> = Object {
+    sections: &[Section::DATA],
+    symbols: &[Symbol {
+        section: SHN_UNDEF,
+        ..Symbol::START
+    }],
+    ..Object::EMPTY
+};
 
-// The small file with changes.
-fn object(alloc: Global, changes: &[Part]) -> Result<FileBytes, AllocError> {
-    let mut bytes = filled(alloc, 496, &SMALL)?;
-    for (at, part) in changes {
-        put(&mut bytes, *at, part);
-    }
-    let name = String::from_str(alloc, "t.o")?;
-    Ok(FileBytes { name, bytes })
-}
-
-/// Small files with these changes, and the name of their entry.
+/// Objects, and the name of their entry.
 #[derive(Clone, Copy)]
 struct Job<'a> {
-    objects: &'a [&'a [Part]],
+    objects: &'a [&'a Object<'a>],
     entry: &'a str,
+}
+
+fn file(alloc: Global, object: &Object) -> Result<FileBytes, Memory> {
+    Ok(FileBytes {
+        name: String::from_str(alloc, "t.o")?,
+        bytes: object.file(alloc)?,
+    })
 }
 
 fn link_with<L: Ledger>(
@@ -140,8 +144,8 @@ fn link_with<L: Ledger>(
     requires some { 0 < L.parts }
 {
     let mut files = Vec::new(alloc);
-    for changes in job.objects {
-        files.push(object(alloc, changes)?)?;
+    for object in job.objects {
+        files.push(file(alloc, object)?)?;
     }
     if files.is_empty() || files.len() > 4096 {
         return Err(Fail::from("1 to 4096 files"));
@@ -159,105 +163,87 @@ fn linked(alloc: Global, job: Job) -> Result<Result<Linked, Refusal>, Fail> {
     link_with::<Brand>(Blank::new(1), alloc, job)
 }
 
-/// The executable of the small file's text, of 65,548 bytes.
-const EXECUTABLE: &[Part] = &[
-    (0, b"\x7fELF\x02\x01\x01"),
-    (16, b"\x02\x00\x15\x00\x01"),
-    (24, b"\x00\x00\x00\x10"),
-    (32, b"\x40"),
-    (48, b"\x02"),
-    (52, b"\x40\x00\x38\x00\x01"),
-    (64, b"\x01\x00\x00\x00\x05"),
-    (74, b"\x01"),
-    (83, b"\x10"),
-    (91, b"\x10"),
-    (96, b"\x0c"),
-    (104, b"\x0c"),
-    (114, b"\x01"),
-    (
-        0x1_0000,
-        b"\x01\x00\x00\x38\x07\x00\x60\x38\x02\x00\x00\x44",
-    ),
-];
-
-/// Files with one text section together, their entry, and how far into the text it is.
-const LINKED: [(&[&[Part]], &str, u8); 6] = [
-    (&[WHOLE], "_start", 0),
-    (&[AT_FOUR], "_start", 4),
-    (&[ALIGNED], "_start", 0),
-    (&[WHOLE, DROPPED], "_start", 0),
-    (&[DROPPED, AT_FOUR], "_start", 4),
-    (&[OTHER_RECORDS], ".text", 0),
+/// Files with one text section together, and how far into the text they are entered.
+const LINKED: [(&[&Object], u64); 6] = [
+    (&[&WHOLE], 0),
+    (&[&AT_FOUR], 4),
+    (&[&ALIGNED], 0),
+    (&[&WHOLE, &DROPPED], 0),
+    (&[&DROPPED, &AT_FOUR], 4),
+    (&[&OTHER_RECORDS], 0),
 ];
 
 #[test]
 fn one_text_section_becomes_the_executable(rt: HostRuntime) -> Result<(), Fail> {
-    for (objects, entry, offset) in LINKED {
+    for (objects, offset) in LINKED {
+        let entry = "_start";
         let Ok(linked) = linked(rt.alloc(), Job { objects, entry })? else {
             return Err(Fail::from("the files link"));
         };
-        let mut expected = filled(rt.alloc(), 65_548, EXECUTABLE)?;
-        put(&mut expected, 24, &[offset]);
-        assert!(rt; linked.image == expected);
+        assert_eq!(rt; linked.image.len() as u64, PAGE + 12);
+        let Ok(image) = read_exec(rt.alloc(), &linked.image) else {
+            return Err(Fail::from("an executable"));
+        };
+        assert_eq!(rt; image.entry, IMAGE_START + offset);
+        assert_eq!(rt; image.list.len(), 1);
+        assert_eq!(rt; image.list[0].address, IMAGE_START);
+        assert!(rt; image.list[0].bytes.as_slice() == EXIT_7);
     }
     Ok(())
 }
 
-/// Files of which the last number is that of the first one that needs more.
-const NOT_BUILT: [(&[&[Part]], &str, u32); 7] = [
-    (&[WHOLE, COMMON], "_start", 1),
-    (&[DROPPED, RECORDS], ".text", 1),
-    (&[DROPPED, DATA], ".text", 1),
-    (&[MORE_TEXT, DROPPED], ".text", 0),
-    (&[WHOLE, LOCAL], "_start", 1),
-    (&[LOCAL, WHOLE], "_start", 1),
-    (&[COMMON, DATA], ".text", 0),
+/// How files with an entry are refused.
+#[derive(Clone, Copy)]
+enum Why {
+    /// This file needs more.
+    NotBuilt(u32),
+    /// This file is none.
+    NotElf(u32),
+    /// `_start` is defined twice, in these files.
+    Twice(u32, u32),
+    NoEntry,
+    NotCode,
+}
+
+/// What doesn't begin as an ELF file does.
+const FOREIGN: Object<'static> = Object {
+    header: FileHeader {
+        magic: *b"\x7fELG",
+        ..FileHeader::OBJECT
+    },
+    ..WHOLE
+};
+
+const REFUSED: [(&[&Object], &str, Why); 11] = [
+    // the first file that needs more
+    (&[&WHOLE, &COMMON], "_start", Why::NotBuilt(1)),
+    (&[&DROPPED, &RECORDS], "_start", Why::NotBuilt(1)),
+    (&[&DROPPED, &DATA], "_start", Why::NotBuilt(1)),
+    (&[&MORE_TEXT, &DROPPED], "_start", Why::NotBuilt(0)),
+    (&[&WHOLE, &LOCAL], "_start", Why::NotBuilt(1)),
+    (&[&LOCAL, &WHOLE], "_start", Why::NotBuilt(1)),
+    (&[&ONLY_DATA, &WHOLE], "_start", Why::NotBuilt(0)),
+    // files, then names, then the entry come before it
+    (&[&WHOLE, &WHOLE, &FOREIGN], "main", Why::NotElf(2)),
+    (&[&WHOLE, &COMMON, &WHOLE], "main", Why::Twice(0, 2)),
+    (&[&WHOLE, &COMMON], "main", Why::NoEntry),
+    (&[&DROPPED, &COMMON], "_start", Why::NotCode),
 ];
 
 #[test]
-fn the_first_file_that_needs_more_is_not_built(rt: HostRuntime) -> Result<(), Fail> {
-    for (objects, entry, file) in NOT_BUILT {
-        match linked(rt.alloc(), Job { objects, entry })? {
-            Err(Refusal::NotBuilt(number)) => assert_eq!(rt; number, file),
-            _ => return Err(Fail::from("a file needs more")),
-        }
+fn the_first_refusal_in_order_is_answered(rt: HostRuntime) -> Result<(), Fail> {
+    for (i, (objects, entry, why)) in REFUSED.into_iter().enumerate() {
+        let is_so = match (linked(rt.alloc(), Job { objects, entry })?, why) {
+            (Err(Refusal::NotBuilt(file)), Why::NotBuilt(first)) => file == first,
+            (Err(Refusal::NotElf(file)), Why::NotElf(first)) => file == first,
+            (Err(Refusal::Duplicate(_, one, other)), Why::Twice(first, second)) => {
+                one == first && other == second
+            }
+            (Err(Refusal::NoEntry(_)), Why::NoEntry) => true,
+            (Err(Refusal::EntryNotCode(_)), Why::NotCode) => true,
+            _ => false,
+        };
+        assert!(rt; is_so, "row {i}");
     }
-    Ok(())
-}
-
-#[test]
-fn files_then_names_then_the_entry_are_refused(rt: HostRuntime) -> Result<(), Fail> {
-    let foreign = linked(
-        rt.alloc(),
-        Job {
-            objects: &[WHOLE, WHOLE, FOREIGN],
-            entry: "main",
-        },
-    )?;
-    assert!(rt; matches!(foreign, Err(Refusal::NotElf(2))));
-    let twice = linked(
-        rt.alloc(),
-        Job {
-            objects: &[WHOLE, COMMON, WHOLE],
-            entry: "main",
-        },
-    )?;
-    assert!(rt; matches!(twice, Err(Refusal::Duplicate(_, 0, 2))));
-    let absent = linked(
-        rt.alloc(),
-        Job {
-            objects: &[WHOLE, COMMON],
-            entry: "main",
-        },
-    )?;
-    assert!(rt; matches!(absent, Err(Refusal::NoEntry(_))));
-    let common = linked(
-        rt.alloc(),
-        Job {
-            objects: &[DATA, COMMON],
-            entry: "_start",
-        },
-    )?;
-    assert!(rt; matches!(common, Err(Refusal::EntryNotCode(_))));
     Ok(())
 }

@@ -12,7 +12,7 @@ use std::test::Fail;
 
 /// What resolution answers.
 #[derive(Clone, Copy)]
-enum Answer {
+enum Outcome {
     /// The program is entered at this offset of this text section.
     Entered(u32, u64),
     /// This name has two GLOBAL definitions, in these files.
@@ -23,17 +23,17 @@ enum Answer {
     NotCode,
 }
 
-use Answer::{Entered, NoEntry, NotCode, Twice};
+use Outcome::{Entered, NoEntry, NotCode, Twice};
 
 /// Whether files with an entry are answered so.
-fn is_answered(alloc: Global, set: &ObjectSet, entry: &[u8], answer: Answer) -> bool {
+fn is_answered(alloc: Global, set: &ObjectSet, entry: &[u8], answer: Outcome) -> bool {
     match (resolve(alloc, set, entry), answer) {
         (Ok(resolved), Entered(section, offset)) => {
             let place = resolved.entry();
             place.section == section && place.offset == offset
         }
-        (Err(Refusal::Duplicate(name, first, second)), Twice(duplicate_of, one, other)) => {
-            name.as_slice() == duplicate_of && (first, second) == (one, other)
+        (Err(Refusal::Duplicate(name, first, second)), Twice(twice, one, other)) => {
+            name.as_slice() == twice && (first, second) == (one, other)
         }
         (Err(Refusal::NoEntry(name)), NoEntry) => name.as_slice() == entry,
         (Err(Refusal::EntryNotCode(name)), NotCode) => name.as_slice() == entry,
@@ -42,7 +42,7 @@ fn is_answered(alloc: Global, set: &ObjectSet, entry: &[u8], answer: Answer) -> 
 }
 
 /// Files, an entry, and what resolution answers.
-type Row = (&'static [File], &'static [u8], Answer);
+type Row = (&'static [File], &'static [u8], Outcome);
 
 /// Names with two GLOBAL definitions.
 const TWICE: [Row; 9] = [

@@ -18,7 +18,7 @@ fn text_sections_are_numbered_through_the_files(rt: HostRuntime) -> Result<(), F
     assert_eq!(rt; resolved.text_of(3), (1, 3));
     let set = resolved.set();
     assert_eq!(rt; set.file_count(), 2);
-    assert_eq!(rt; set.view(1).section_count(), 7);
+    assert_eq!(rt; set.view(1).section_count(), 8);
     assert_eq!(rt; resolved.text_number(1, 1), Some(2));
     assert_eq!(rt; resolved.text_number(1, 2), None);
     assert_eq!(rt; resolved.text_number(1, 3), Some(3));
@@ -40,14 +40,11 @@ fn name(k: u16) -> [u8; 4] {
 fn many_files_are_resolved(rt: HostRuntime) -> Result<(), Fail> {
     let mut files = Vec::new(rt.alloc());
     for k in 0..4096u16 {
-        let definition_in = name(k);
+        let defined = name(k);
         let used = name(4095 - k);
         files.push(object(
             rt.alloc(),
-            &[
-                (&definition_in, GLOBAL, Text(4)),
-                (&used, GLOBAL, Undefined),
-            ],
+            &[(&defined, GLOBAL, Text(4)), (&used, GLOBAL, Undefined)],
         )?)?;
     }
     assert_eq!(rt; files.len(), 4096);

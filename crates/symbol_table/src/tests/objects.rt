@@ -1,6 +1,9 @@
 // Small object files, made of their symbols.
+use elf64_records::constants::{SHN_ABS, SHN_COMMON};
+use object_builder::{FileHeader, Object, Section, Stated, Symbol};
 use object_set::FileBytes;
-use std::alloc::{AllocError, Global};
+use ppc_bytes::Memory;
+use std::alloc::Global;
 
 /// STB_LOCAL, as st_info has it.
 pub const LOCAL: u8 = 0x00;
@@ -33,129 +36,90 @@ pub enum Lies {
 }
 
 /// A symbol: its name, its binding and where it lies.
-pub type Symbol<'a> = (&'a [u8], u8, Lies);
+pub type Named<'a> = (&'a [u8], u8, Lies);
 
 /// The symbols of a file from symbol 1 on.
-pub type File = &'static [Symbol<'static>];
+pub type File = &'static [Named<'static>];
 
-/// Bytes, and the place in a file where they stand.
-type Part = (usize, &'static [u8]);
+const BYTES: &[u8] = &[0; 16];
 
-/// The file header, and from 64 on seven section headers: none, sections 1 to 4, the symbols' names and the symbol table. Sections 1
-/// to 4 have their bytes at 512, and the names stand at 528.
-const HEADERS: [Part; 36] = [
-    (0, b"\x7fELF\x02\x01\x01"),
-    (16, b"\x01\x00\x15\x00\x01"),
-    (40, b"\x40"),
-    (48, b"\x02"),
-    (52, b"\x40"),
-    (58, b"\x40\x00\x07\x00\x05"),
-    (132, b"\x01"),
-    (136, b"\x06"),
-    (153, b"\x02"),
-    (160, b"\x10"),
-    (176, b"\x04"),
-    (196, b"\x01"),
-    (200, b"\x03"),
-    (217, b"\x02"),
-    (224, b"\x10"),
-    (240, b"\x08"),
-    (260, b"\x01"),
-    (264, b"\x06"),
-    (281, b"\x02"),
-    (288, b"\x08"),
-    (304, b"\x04"),
-    (324, b"\x01"),
-    (345, b"\x02"),
-    (352, b"\x10"),
-    (368, b"\x01"),
-    (388, b"\x03"),
-    (408, b"\x10\x02"),
-    (432, b"\x01"),
-    (452, b"\x02"),
-    (488, b"\x05\x00\x00\x00\x01"),
-    (496, b"\x08"),
-    (504, b"\x18"),
-    (512, b"\x01\x00\x00\x38"),
-    (516, b"\x07\x00\x60\x38"),
-    (520, b"\x02\x00\x00\x44"),
-    (524, b"\x00\x00\x00\x60"),
+/// The sections of each file.
+const SECTIONS: &[Section<'static>] = &[
+    Section {
+        bytes: BYTES,
+        ..Section::TEXT
+    },
+    Section {
+        bytes: BYTES,
+        ..Section::DATA
+    },
+    Section {
+        bytes: &[0; 8],
+        ..Section::TEXT
+    },
+    Section {
+        flags: 0,
+        bytes: BYTES,
+        ..Section::DATA
+    },
 ];
 
-/// The places of the size of the names, and of the place and the size of the symbol table.
-const NAMES_SIZE: usize = 416;
-
-const TABLE_AT: usize = 472;
-
-const TABLE_SIZE: usize = 480;
-
-fn put(b: &mut [u8], at: usize, bytes: &[u8]) {
-    for (k, byte) in bytes.iter().enumerate() {
-        if k < b.len() && at < b.len() - k {
-            b[at + k] = *byte;
-        }
+/// A symbol's entry.
+fn symbol<'a>(named: &Named<'a>) -> Symbol<'a> {
+    let (name, info, lies) = *named;
+    let (section, value, size) = match lies {
+        Lies::Undefined => (0, 0, 0),
+        Lies::Text(value) | Lies::Function(value) => (1, value, 0),
+        Lies::Data(value) => (2, value, 0),
+        Lies::MoreText(value) => (3, value, 0),
+        Lies::Dropped(value) => (4, value, 0),
+        Lies::Absolute(value) => (SHN_ABS, value, 0),
+        Lies::Common(size, align) => (SHN_COMMON, align, size),
+    };
+    let other = if matches!(lies, Lies::Function(_)) {
+        3 << 5
+    } else {
+        0
+    };
+    Symbol {
+        name,
+        info,
+        other,
+        section,
+        value,
+        size,
+        stated_name: None,
     }
 }
 
-/// A symbol's st_other, st_shndx, st_value and st_size.
-fn fields(lies: Lies) -> (u8, u16, u64, u64) {
-    match lies {
-        Lies::Undefined => (0, 0, 0, 0),
-        Lies::Text(value) => (0, 1, value, 0),
-        Lies::Function(value) => (0x60, 1, value, 0),
-        Lies::Data(value) => (0, 2, value, 0),
-        Lies::MoreText(value) => (0, 3, value, 0),
-        Lies::Dropped(value) => (0, 4, value, 0),
-        Lies::Absolute(value) => (0, 0xFFF1, value, 0),
-        Lies::Common(size, align) => (0, 0xFFF2, align, size),
+/// An object of these parts.
+fn of_parts<'a>(sections: &'a [Section<'a>], symbols: &'a [Symbol<'a>]) -> Object<'a> {
+    Object {
+        header: FileHeader::OBJECT,
+        sections,
+        null_symbol: Symbol::NULL,
+        symbols,
+        null_section: Stated::TRUE,
+        symbol_table: Stated::TRUE,
+        symbol_names: Stated::TRUE,
+        section_names: Stated::TRUE,
     }
-}
-
-/// A symbol's entry, with its name at a place among the names.
-fn entry(name: usize, binding: u8, lies: Lies) -> [u8; 24] {
-    let (other, shndx, value, size) = fields(lies);
-    let mut entry = [0; 24];
-    put(&mut entry, 0, &(name as u64).to_le_bytes());
-    put(&mut entry, 4, &[binding, other]);
-    put(&mut entry, 6, &shndx.to_le_bytes());
-    put(&mut entry, 8, &value.to_le_bytes());
-    put(&mut entry, 16, &size.to_le_bytes());
-    entry
-}
-
-/// The headers and the bytes of sections 1 to 4, where the names and the symbol table take so many bytes.
-fn front(names: usize, table: usize) -> [u8; 528] {
-    let mut front = [0; 528];
-    for (at, bytes) in HEADERS {
-        put(&mut front, at, bytes);
-    }
-    let table_at = (names as u64).saturating_add(528);
-    put(&mut front, NAMES_SIZE, &(names as u64).to_le_bytes());
-    put(&mut front, TABLE_AT, &table_at.to_le_bytes());
-    put(&mut front, TABLE_SIZE, &(table as u64).to_le_bytes());
-    front
 }
 
 /// A file with these symbols.
-pub fn object(alloc: Global, symbols: &[Symbol]) -> Result<FileBytes, AllocError> {
-    let mut names = Vec::from_slice(alloc, b"\x00")?;
-    let mut table = Vec::from_slice(alloc, &[0u8; 24])?;
-    for (name, binding, lies) in symbols {
-        table.extend_from_slice(&entry(names.len(), *binding, *lies))?;
-        names.extend_from_slice(name)?;
-        names.push(0)?;
+pub fn object(alloc: Global, named: &[Named]) -> Result<FileBytes, Memory> {
+    let mut symbols = Vec::new(alloc);
+    for one in named {
+        symbols.push(symbol(one))?;
     }
-    let mut bytes = Vec::from_slice(alloc, &front(names.len(), table.len()))?;
-    bytes.extend_from_slice(&names)?;
-    bytes.extend_from_slice(&table)?;
     Ok(FileBytes {
         name: String::from_str(alloc, "t.o")?,
-        bytes,
+        bytes: of_parts(SECTIONS, &symbols).file(alloc)?,
     })
 }
 
 /// The files of a link.
-pub fn link(alloc: Global, files: &[File]) -> Result<Vec<FileBytes>, AllocError> {
+pub fn link(alloc: Global, files: &[File]) -> Result<Vec<FileBytes>, Memory> {
     let mut objects = Vec::new(alloc);
     for symbols in files {
         objects.push(object(alloc, symbols)?)?;
