@@ -1,6 +1,6 @@
 -- What makes a file no object file that is read, in the order in which it is said. Sums don't wrap.
 use Rattle.std.specs.Prelude.{ℕ, ◌+◌, ◌-◌, ◌*◌, ◌/◌, ◌%◌, Bool, not, List, length, ◌||◌, ◌&&◌, ◌==◌, nat_lt, nat_le, Option, None, if◌then◌else◌}
-use Rattle.elf64_records.specs.declared.constants.TheConstants.{ET_REL, ET_DYN}
+use Rattle.ppc_bytes.specs.declared.constants.TheConstants.{ET_REL, ET_DYN}
 use Rattle.elf64_records.specs.declared.fault.ElfFault.{ElfFault}
 use Rattle.elf64_records.specs.declared.fault.ElfFault.TheVariants.{NotElf, NotPpc64Le, SharedObject, NotObject, BadAbi, BadTable}
 use Rattle.elf64_records.specs.declared.fault.Place.TheVariants.{File, Section, Symbol, Record}

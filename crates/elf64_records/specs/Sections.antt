@@ -2,7 +2,7 @@
 -- offset there.
 use Rattle.std.specs.Prelude.{ℕ, ◌+◌, ◌*◌, Bool, not, List, [], ◌||◌, ◌&&◌, ◌==◌, bit_and, slice_range, if◌then◌else◌}
 use Rattle.ppc_bytes.specs.Bytes.{number_at}
-use Rattle.elf64_records.specs.declared.constants.TheConstants.{SHT_NULL, SHT_SYMTAB, SHT_STRTAB, SHT_RELA, SHT_NOBITS, SHF_ALLOC}
+use Rattle.ppc_bytes.specs.declared.constants.TheConstants.{SHT_NULL, SHT_SYMTAB, SHT_STRTAB, SHT_RELA, SHT_NOBITS, SHF_ALLOC}
 use Rattle.elf64_records.specs.FileHeader.{e_shoff, e_shstrndx}
 use Rattle.elf64_records.specs.Names.{name_at}
 

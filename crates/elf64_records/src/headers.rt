@@ -1,14 +1,17 @@
 // The file header and the section headers.
 ghost use Rattle.std.specs.Prelude.{◌≡◌, ◌<◌, ◌≤◌, ◌+◌, ◌*◌, IfOk, None, length};
-ghost use Rattle.elf64_records.specs.declared.constants.TheConstants.{FILE_LIMIT};
+ghost use Rattle.elf64_records.specs.declared.headers.TheConstants.{FILE_LIMIT};
 ghost use Rattle.elf64_records.specs.First.{Refuses};
 ghost use Rattle.elf64_records.specs.FileHeader.{e_shoff, e_shnum, e_shstrndx};
 ghost use Rattle.elf64_records.specs.Sections.{sh_name, sh_type, sh_flags, sh_offset, sh_size, sh_link, sh_info, sh_addralign, sh_entsize, type_of, has_bytes, is_kept};
 ghost use Rattle.elf64_records.specs.Faults.{header_fault, kind_fault, has_entries};
 
-use crate::constants::{ET_DYN, ET_REL, FILE_LIMIT, SHF_ALLOC, SHT_NOBITS, SHT_NULL, SHT_STRTAB};
 use crate::fault::{ElfFault, Place};
+use ppc_bytes::constants::{ET_DYN, ET_REL, SHF_ALLOC, SHT_NOBITS, SHT_NULL, SHT_STRTAB};
 use ppc_bytes::{half_at, has_magic, is_ppc64_le, long_at, word_at};
+
+/// How many bytes an object file may have.
+pub const FILE_LIMIT: usize = 0x1000_0000;
 
 /// The section headers of a file whose file header has no fault.
 #[derive(Clone, Copy)]

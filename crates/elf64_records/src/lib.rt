@@ -3,7 +3,6 @@
 // file that isn't whole is refused with the first of its faults.
 #![tactic(auto)]
 
-pub mod constants;
 mod fault;
 mod headers;
 mod names;
@@ -13,6 +12,8 @@ mod symbols;
 mod view;
 
 pub use fault::{ElfFault, Place};
+pub use headers::FILE_LIMIT;
+pub use ppc_bytes::constants;
 pub use records::Rela;
 pub use sections::{SectionHeader, SectionView};
 pub use symbols::{SymbolEntry, SymbolView};

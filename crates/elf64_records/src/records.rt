@@ -7,9 +7,9 @@ ghost use Rattle.elf64_records.specs.Sections.{is_rela, sh_offset};
 ghost use Rattle.elf64_records.specs.Records.{record_place};
 ghost use Rattle.elf64_records.specs.Faults.{first_section, rela_fault, records_fault, record_fault};
 
-use crate::constants::SHT_RELA;
 use crate::fault::{ElfFault, Place};
 use crate::symbols::Symbols;
+use ppc_bytes::constants::SHT_RELA;
 use ppc_bytes::long_at;
 
 /// One relocation record.

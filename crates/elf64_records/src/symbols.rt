@@ -7,14 +7,14 @@ ghost use Rattle.elf64_records.specs.Names.{IsZeroEnd};
 ghost use Rattle.elf64_records.specs.Symbols.{symbol_table_at, symbol_table, symbol_count, symbol_place, symbol_names, symbol_of, st_name};
 ghost use Rattle.elf64_records.specs.Faults.{first_section, second_fault, symbol_table_fault, symbol_fault, symbols_fault};
 
-use crate::constants::{
-    SHN_ABS, SHN_COMMON, SHN_LORESERVE, SHN_UNDEF, SHT_STRTAB, SHT_SYMTAB, STB_GLOBAL, STB_LOCAL,
-    STB_WEAK,
-};
 use crate::fault::{ElfFault, Place};
 use crate::headers::Headers;
 use crate::names::{is_named, name_from, zero_end};
 use crate::sections::Sections;
+use ppc_bytes::constants::{
+    SHN_ABS, SHN_COMMON, SHN_LORESERVE, SHN_UNDEF, SHT_STRTAB, SHT_SYMTAB, STB_GLOBAL, STB_LOCAL,
+    STB_WEAK,
+};
 use ppc_bytes::{half_at, long_at, word_at};
 
 /// What a file says of one symbol.

@@ -8,12 +8,12 @@ ghost use Rattle.elf64_records.specs.Symbols.{symbol_count, symbol_of};
 ghost use Rattle.elf64_records.specs.Records.{record_count, rela_of};
 ghost use Rattle.elf64_records.specs.Faults.{object_fault};
 
-use crate::constants::{FILE_LIMIT, SHT_RELA};
 use crate::fault::ElfFault;
-use crate::headers::Headers;
+use crate::headers::{FILE_LIMIT, Headers};
 use crate::records::{Rela, check_relas, record_at};
 use crate::sections::{SectionHeader, SectionView, Sections};
 use crate::symbols::{SymbolEntry, SymbolView, Symbols};
+use ppc_bytes::constants::SHT_RELA;
 use std::marker::Model;
 
 /// A relocatable file that has none of the faults of `ElfFault`. It borrows the file's bytes, as which contracts see it, and each

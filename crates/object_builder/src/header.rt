@@ -1,5 +1,5 @@
 // The file header.
-use elf64_records::constants::ET_REL;
+use ppc_bytes::constants::ET_REL;
 
 /// The file header, by its fields. Where no value is stated for the last three they are those of the file that is made.
 #[derive(Clone, Copy)]

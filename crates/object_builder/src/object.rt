@@ -6,8 +6,8 @@ use crate::encoding::{
 };
 use crate::header::FileHeader;
 use crate::section::{Section, Stated, Symbol};
-use elf64_records::constants::{SHT_RELA, SHT_STRTAB, SHT_SYMTAB};
 use ppc_bytes::Memory;
+use ppc_bytes::constants::{SHT_RELA, SHT_STRTAB, SHT_SYMTAB};
 use std::alloc::Global;
 
 /// An object file, by its parts. Its sections have the numbers from 1 on, behind them stand those that hold their records, then the

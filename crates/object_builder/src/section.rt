@@ -1,5 +1,5 @@
 // Sections, symbols and records, by their fields.
-use elf64_records::constants::{
+use ppc_bytes::constants::{
     SHF_ALLOC, SHF_EXECINSTR, SHF_WRITE, SHT_NOBITS, SHT_PROGBITS, STB_GLOBAL, STT_FUNC,
 };
 

@@ -1,7 +1,7 @@
 -- Why object files are refused, in the order in which it is said.
 use Rattle.std.specs.Prelude.{ℕ, ◌≡◌, ◌+◌, ◌-◌, ◌⊎◌, List, [], ◌∷◌, length, nat_lt, Option, None, Some, Result, Ok, Err}
 use Rattle.std.specs.Option.{option_map}
-use Rattle.elf64_records.specs.declared.constants.TheConstants.{FILE_LIMIT}
+use Rattle.elf64_records.specs.declared.headers.TheConstants.{FILE_LIMIT}
 use Rattle.elf64_records.specs.declared.fault.ElfFault.{ElfFault}
 use Rattle.elf64_records.specs.declared.fault.ElfFault.TheVariants as fault
 use Rattle.elf64_records.specs.First.{◌orelse◌, when, first_from}

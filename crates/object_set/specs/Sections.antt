@@ -3,7 +3,7 @@
 use Rattle.std.specs.Prelude.{ℕ, ◌%◌, Bool, true, false, not, List, ◌||◌, ◌&&◌, ◌==◌, nat_le, bit_and, max, codes, Option, None, if◌then◌else◌}
 use Rattle.std.specs.Int.{is_power_of_two}
 use Rattle.std.specs.Str.{bytes_eq}
-use Rattle.elf64_records.specs.declared.constants.TheConstants.{SHF_WRITE, SHF_EXECINSTR, SHF_TLS, SHF_COMPRESSED, SHT_PROGBITS, SHT_NOTE, SHT_NOBITS, SHT_REL, SHT_INIT_ARRAY, SHT_FINI_ARRAY, SHT_GROUP, SHT_SYMTAB_SHNDX}
+use Rattle.ppc_bytes.specs.declared.constants.TheConstants.{SHF_WRITE, SHF_EXECINSTR, SHF_TLS, SHF_COMPRESSED, SHT_PROGBITS, SHT_NOTE, SHT_NOBITS, SHT_REL, SHT_INIT_ARRAY, SHT_FINI_ARRAY, SHT_GROUP, SHT_SYMTAB_SHNDX}
 use Rattle.object_set.specs.declared.sections.TheConstants.{ALIGN_LIMIT, TOC_ALIGN_LIMIT}
 use Rattle.elf64_records.specs.declared.fault.Place.TheVariants.{Section}
 use Rattle.elf64_records.specs.First.{◌orelse◌, when}

@@ -2,7 +2,7 @@
 -- Values"). Symbol 0 counts as local, undefined and without a name, whatever its entry says.
 use Rattle.std.specs.Prelude.{ℕ, ◌+◌, ◌*◌, ◌/◌, ◌%◌, ◌^◌, Bool, not, List, [], ◌||◌, ◌&&◌, ◌==◌, nat_lt, codes, Option, Some, None, if◌then◌else◌}
 use Rattle.std.specs.Str.{bytes_eq}
-use Rattle.elf64_records.specs.declared.constants.TheConstants.{SHN_UNDEF, SHN_LORESERVE, SHN_ABS, SHN_COMMON, SHN_XINDEX, STB_LOCAL, STB_GLOBAL, STB_WEAK, STB_GNU_UNIQUE, STT_TLS, STT_GNU_IFUNC}
+use Rattle.ppc_bytes.specs.declared.constants.TheConstants.{SHN_UNDEF, SHN_LORESERVE, SHN_ABS, SHN_COMMON, SHN_XINDEX, STB_LOCAL, STB_GLOBAL, STB_WEAK, STB_GNU_UNIQUE, STT_TLS, STT_GNU_IFUNC}
 use Rattle.object_set.specs.declared.sections.TheConstants.{ALIGN_LIMIT}
 use Rattle.elf64_records.specs.declared.fault.Place.TheVariants.{Symbol}
 use Rattle.elf64_records.specs.First.{◌orelse◌, when}

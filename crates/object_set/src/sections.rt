@@ -7,11 +7,11 @@ ghost use Rattle.object_set.specs.Sections.{kept_refusal, section_refusal, is_ke
 ghost use Rattle.object_set.specs.Refusals.{sections_refusal};
 
 use crate::refusal::Refusal;
-use elf64_records::constants::{
+use elf64_records::{ObjectView, Place};
+use ppc_bytes::constants::{
     SHF_ALLOC, SHF_COMPRESSED, SHF_EXECINSTR, SHF_TLS, SHF_WRITE, SHT_FINI_ARRAY, SHT_GROUP,
     SHT_INIT_ARRAY, SHT_NOBITS, SHT_NOTE, SHT_PROGBITS, SHT_REL, SHT_SYMTAB_SHNDX, TOC_SECTION,
 };
-use elf64_records::{ObjectView, Place};
 
 /// The largest alignment of a section or a common, and that of a part of the table of contents.
 pub const ALIGN_LIMIT: u64 = 0x1_0000;

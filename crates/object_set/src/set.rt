@@ -1,6 +1,6 @@
 // A set of object files.
 ghost use Rattle.std.specs.Prelude.{◌≡◌, ◌<◌, ◌≤◌, IfOk, None, length};
-ghost use Rattle.elf64_records.specs.declared.constants.TheConstants.{FILE_LIMIT};
+ghost use Rattle.elf64_records.specs.declared.headers.TheConstants.{FILE_LIMIT};
 ghost use Rattle.elf64_records.specs.First.{Refuses};
 ghost use Rattle.elf64_records.specs.FileHeader.{e_shnum};
 ghost use Rattle.object_set.specs.Files.{contents_of, file_at};
@@ -12,8 +12,7 @@ use crate::refusal::Refusal;
 use crate::sections::check_sections;
 use crate::sort::{Sort, sort_of};
 use crate::symbols::check_symbols;
-use elf64_records::constants::FILE_LIMIT;
-use elf64_records::{ElfFault, ObjectView};
+use elf64_records::{ElfFault, FILE_LIMIT, ObjectView};
 use std::alloc::Global;
 use std::marker::Model;
 

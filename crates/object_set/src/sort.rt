@@ -4,7 +4,7 @@ ghost use Rattle.elf64_records.specs.FileHeader.{e_shnum};
 ghost use Rattle.object_set.specs.Sections.{sort_of, is_kept_sort, is_text_sort};
 
 use elf64_records::ObjectView;
-use elf64_records::constants::{SHF_ALLOC, SHF_EXECINSTR, SHF_WRITE, SHT_NOBITS, TOC_SECTION};
+use ppc_bytes::constants::{SHF_ALLOC, SHF_EXECINSTR, SHF_WRITE, SHT_NOBITS, TOC_SECTION};
 
 /// What a link does with a section.
 #[derive(Clone, Copy, Debug, PartialEq, Eq)]

@@ -6,7 +6,7 @@ ghost use Rattle.object_set.specs.Files.{file_at};
 ghost use Rattle.object_set.specs.Symbols.{is_local, is_weak, is_undefined, is_absolute, is_common, is_toc_base, section_index};
 
 use crate::set::ObjectSet;
-use elf64_records::constants::TOC_BASE;
+use ppc_bytes::constants::TOC_BASE;
 
 impl<'a> ObjectSet<'a> {
     /// Whether only the symbol's own file sees it.

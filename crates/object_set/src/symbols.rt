@@ -9,11 +9,11 @@ ghost use Rattle.object_set.specs.Refusals.{symbols_refusal};
 use crate::refusal::Refusal;
 use crate::sections::{ALIGN_LIMIT, is_power_up_to};
 use crate::sort::{Sort, sort_of};
-use elf64_records::constants::{
+use elf64_records::{ObjectView, Place};
+use ppc_bytes::constants::{
     SHN_ABS, SHN_COMMON, SHN_LORESERVE, SHN_XINDEX, STB_GLOBAL, STB_GNU_UNIQUE, STB_LOCAL,
     STB_WEAK, STT_GNU_IFUNC, STT_TLS, TOC_BASE,
 };
-use elf64_records::{ObjectView, Place};
 
 /// Refuses symbol `j`, by itself, with the first of its faults.
 #[tactic(auto, unfolding(crate::specs::Symbols::symbol_refusal))]

@@ -4,6 +4,7 @@
 
 mod align;
 mod bytes;
+pub mod constants;
 mod halves;
 mod ident;
 mod laws;

@@ -4,7 +4,7 @@ ghost use Rattle.object_set.specs.Files.{contents_of};
 ghost use Rattle.ppclink.specs.Requests.{texts};
 ghost use Rattle.ppclink.specs.inside.Fetched.{HasRead, HaveRead, OneCause, ManyCause, file_limit};
 
-use elf64_records::constants::FILE_LIMIT;
+use elf64_records::FILE_LIMIT;
 use link_engine::FileBytes;
 use ppc_outside::{OutsideError, Store};
 use std::alloc::Global;

@@ -15,7 +15,7 @@ use crate::running::perform_run;
 use crate::show::shown;
 use crate::words::{Command, LinkOptions, parse};
 use elf64_records::ObjectView;
-use elf64_records::constants::FILE_LIMIT;
+use elf64_records::FILE_LIMIT;
 use link_engine::{FileBytes, Options, Refusal, Steps, link};
 use object_set::refusal_of;
 use ppc_bytes::Memory;

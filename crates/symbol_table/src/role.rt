@@ -5,7 +5,7 @@ ghost use Rattle.object_set.specs.Files.{file_at};
 ghost use Rattle.symbol_table.specs.Externals.{role_of};
 
 use crate::definition::is_defined;
-use elf64_records::constants::STB_GLOBAL;
+use ppc_bytes::constants::{STB_GLOBAL};
 use object_set::ObjectSet;
 
 /// What a GLOBAL or WEAK symbol does for its name.

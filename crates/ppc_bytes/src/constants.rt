@@ -1,7 +1,4 @@
-// The numbers to which the ELF64 object file format gives names, and how large a file may be.
-
-/// How many bytes an object file may have.
-pub const FILE_LIMIT: usize = 0x1000_0000;
+// The numbers to which the ELF64 object file format gives names, and the names of the table of contents.
 
 /// File types (e_type): relocatable, and shared.
 pub const ET_REL: u16 = 1;
