@@ -59,7 +59,8 @@ fn check_record(symbols: &Symbols, i: u32, place: usize, k: u32) -> Result<(), E
 fn check_each(symbols: &Symbols, i: u32, start: usize, count: u32) -> Result<(), ElfFault>
     requires start { start ≡ sh_offset symbols.now.sections.headers.bytes.now i }
     requires within { start + 24 * count ≤ length symbols.now.sections.headers.bytes.now }
-    ensures { Refuses result (first_from (record_fault symbols.now.sections.headers.bytes.now i) 0 count) }
+    ensures { let b = symbols.now.sections.headers.bytes.now in
+        Refuses result (first_from (record_fault b i) 0 count) }
 {
     for k in 0..count {
         check_record(symbols, i, start + 24 * k as usize, k)?;
@@ -104,7 +105,8 @@ fn check_rela(symbols: &Symbols, i: u32) -> Result<(), ElfFault>
 /// The first fault of the records of kept sections.
 #[tactic(auto, using(crate::specs::laws::First::walk_step, crate::specs::laws::First::walk_end))]
 pub fn check_relas(symbols: &Symbols) -> Result<(), ElfFault>
-    ensures { let b = symbols.now.sections.headers.bytes.now in Refuses result (first_section b (rela_fault b)) }
+    ensures { let b = symbols.now.sections.headers.bytes.now in
+        Refuses result (first_section b (rela_fault b)) }
 {
     for i in 1..symbols.sections.headers.count {
         check_rela(symbols, i)?;

@@ -73,7 +73,8 @@ impl<'a> Sections<'a> {
     pub fn bytes(&self, i: u32) -> &'a [u8]
         requires { i < self.now.headers.count }
         ensures value { result.now ≡ section_bytes self.now.headers.bytes.now i }
-        ensures length { IsTrue (has_bytes self.now.headers.bytes.now i) → length result.now ≡ sh_size self.now.headers.bytes.now i }
+        ensures length { IsTrue (has_bytes self.now.headers.bytes.now i) →
+            length result.now ≡ sh_size self.now.headers.bytes.now i }
     {
         bytes_of(&self.headers, i)
     }
@@ -89,7 +90,8 @@ impl<'a> Sections<'a> {
         ensures info { result.info ≡ (section_of self.now.headers.bytes.now i).info }
         ensures align { result.align ≡ (section_of self.now.headers.bytes.now i).align }
         ensures bytes { result.bytes.now ≡ (section_of self.now.headers.bytes.now i).bytes }
-        ensures length { IsTrue (has_bytes self.now.headers.bytes.now i) → length result.bytes.now ≡ result.size }
+        ensures length { IsTrue (has_bytes self.now.headers.bytes.now i) →
+            length result.bytes.now ≡ result.size }
     {
         let header = self.header(i);
         SectionView {
@@ -167,7 +169,7 @@ impl<'a> Sections<'a> {
 #[tactic(auto, using(crate::specs::laws::Whole::section_in_file))]
 fn range_of(headers: &Headers, i: u32) -> (usize, usize)
     requires number { i < headers.now.count }
-    requires ranges { first_section headers.now.bytes.now (range_fault headers.now.bytes.now) ≡ None }
+    requires ranges { let b = headers.now.bytes.now in first_section b (range_fault b) ≡ None }
     requires stored { IsTrue (has_bytes headers.now.bytes.now i) }
     ensures start { result.0 ≡ sh_offset headers.now.bytes.now i }
     ensures size { result.1 ≡ sh_size headers.now.bytes.now i }
@@ -179,9 +181,10 @@ fn range_of(headers: &Headers, i: u32) -> (usize, usize)
 /// The bytes of a section, where those of each section lie in the file.
 fn bytes_of<'a>(headers: &Headers<'a>, i: u32) -> &'a [u8]
     requires number { i < headers.now.count }
-    requires ranges { first_section headers.now.bytes.now (range_fault headers.now.bytes.now) ≡ None }
+    requires ranges { let b = headers.now.bytes.now in first_section b (range_fault b) ≡ None }
     ensures value { result.now ≡ section_bytes headers.now.bytes.now i }
-    ensures length { IsTrue (has_bytes headers.now.bytes.now i) → length result.now ≡ sh_size headers.now.bytes.now i }
+    ensures length { IsTrue (has_bytes headers.now.bytes.now i) →
+        length result.now ≡ sh_size headers.now.bytes.now i }
 {
     if headers.has_bytes(i) {
         let (start, size) = range_of(headers, i);

@@ -138,7 +138,8 @@ impl<'a> Symbols<'a> {
     /// The symbols, or the first fault of their table, or else of their names.
     pub fn read(sections: Sections<'a>) -> Result<Symbols<'a>, ElfFault>
         ensures fault { Refuses result (symbols_fault sections.entry.headers.bytes.now) }
-        ensures bytes { IfOk result (λ s. s.sections.headers.bytes.now ≡ sections.entry.headers.bytes.now) }
+        ensures bytes { let b = sections.entry.headers.bytes.now in
+            IfOk result (λ s. s.sections.headers.bytes.now ≡ b) }
     {
         let headers = sections.headers;
         let table = symbol_table(&headers);
@@ -211,7 +212,8 @@ impl<'a> Symbols<'a> {
     #[tactic(auto, using(crate::specs::laws::Whole::symbol_name_in_table))]
     pub fn is_named(&self, j: u32, name: &[u8]) -> bool
         requires { j < self.now.count }
-        ensures { result ≡ bytes_eq (symbol_of self.now.sections.headers.bytes.now j).name name.now }
+        ensures { let b = self.now.sections.headers.bytes.now in
+            result ≡ bytes_eq (symbol_of b j).name name.now }
     {
         is_named(self.names, self.name_place(j), name)
     }
@@ -240,7 +242,8 @@ impl<'a> Symbols<'a> {
 fn symbol_table_at(headers: &Headers, i: u32) -> Option<u32>
     requires { i < headers.now.count }
     ensures number { result ≡ symbol_table_at headers.now.bytes.now i }
-    ensures kind { IfSome result (λ n. (n < headers.now.count) × IsTrue (is_symbol_table headers.now.bytes.now n)) }
+    ensures within { IfSome result (λ n. n < headers.now.count) }
+    ensures kind { IfSome result (λ n. IsTrue (is_symbol_table headers.now.bytes.now n)) }
 {
     if headers.kind(i) == SHT_SYMTAB {
         Some(i)
@@ -279,7 +282,7 @@ fn check_no_other(headers: &Headers, table: u32, i: u32) -> Result<(), ElfFault>
 #[tactic(auto, using(crate::specs::laws::First::walk_step, crate::specs::laws::First::walk_end))]
 fn check_second(headers: &Headers, table: u32) -> Result<(), ElfFault>
     requires { table ≡ symbol_table headers.now.bytes.now }
-    ensures { Refuses result (first_section headers.now.bytes.now (second_fault headers.now.bytes.now)) }
+    ensures { let b = headers.now.bytes.now in Refuses result (first_section b (second_fault b)) }
 {
     for i in 1..headers.count {
         check_no_other(headers, table, i)?;
@@ -291,7 +294,8 @@ fn check_table(headers: &Headers, table: u32) -> Result<(), ElfFault>
     requires number { table ≡ symbol_table headers.now.bytes.now }
     requires within { table < headers.now.count }
     ensures fault { Refuses result (symbol_table_fault headers.now.bytes.now) }
-    ensures link { IfOk result (λ _. table ≢ 0 → sh_link headers.now.bytes.now table < headers.now.count) }
+    ensures link { IfOk result (λ _. table ≢ 0 →
+        sh_link headers.now.bytes.now table < headers.now.count) }
 {
     if table == 0 {
         return Ok(());

@@ -26,8 +26,10 @@ pairs_next numbers set file number end next last more =
     let none : end - number ≡ 0 = omega arith in
     let files : length set - next ≡ suc (length set - (next + 1)) = omega arith in
     let count : count_of numbers (file_at set next) - 0 ≡ count_of numbers (file_at set next) = omega arith in
-    ap (λ (n : ℕ). numbers_left (pair_walk numbers) set next 0 n ++ files_left (pair_walk numbers) set (next + 1) (length set - (next + 1))) count
-    ∙ sym (ap (λ (n : ℕ). numbers_left (pair_walk numbers) set file number n ++ files_left (pair_walk numbers) set next (length set - next)) none
+    ap (λ (n : ℕ). numbers_left (pair_walk numbers) set next 0 n
+    ++ files_left (pair_walk numbers) set (next + 1) (length set - (next + 1))) count
+    ∙ sym (ap (λ (n : ℕ). numbers_left (pair_walk numbers) set file number n
+    ++ files_left (pair_walk numbers) set next (length set - next)) none
     ∙ ap (files_left (pair_walk numbers) set next) files)
 
 -- a number that is left comes first

@@ -1,4 +1,4 @@
--- The symbols of an object file, as a link reads them, and what it can't take (ELF64, "Symbol Table"; ELFv2 ABI, 3.4.1 "Symbol
+-- The symbols of an object file, as a link reads them, and what it can't take (ELF64, "Symbol Table"; ELFv2 ABI, "Symbol
 -- Values"). Symbol 0 counts as local, undefined and without a name, whatever its entry says.
 use Rattle.std.specs.Prelude.{ℕ, ◌+◌, ◌*◌, ◌/◌, ◌%◌, ◌^◌, Bool, not, List, [], ◌||◌, ◌&&◌, ◌==◌, nat_lt, codes, Option, Some, None, if◌then◌else◌}
 use Rattle.std.specs.Str.{bytes_eq}

@@ -1,5 +1,5 @@
 // The object files of a link, and what sort each of their sections is of: sections and symbols that a link can take, as the ELF64
-// object file format ("Section Header", "Symbol Table") and the ELFv2 ABI (3.2 "Special Sections", 3.4 "Symbol Table") have them. A
+// object file format ("Section Header", "Symbol Table") and the ELFv2 ABI (3.2 "Special Sections", "Symbol Table") have them. A
 // set is made of files that are all whole; else the first thing that is wrong is said.
 #![tactic(auto)]
 

@@ -111,7 +111,8 @@ fn check_value(file: u32, view: &ObjectView, j: u32) -> Result<(), Refusal>
 /// Refuses the symbols of a file, from symbol 1 on, with the first of their own faults.
 #[tactic(auto, using(elf64_records::specs::laws::First::walk_step))]
 fn check_each(file: u32, view: &ObjectView) -> Result<(), Refusal>
-    ensures { Refuses result (first_from (symbol_refusal file view.now) 1 (symbol_count view.now - 1)) }
+    ensures { Refuses result
+        (first_from (symbol_refusal file view.now) 1 (symbol_count view.now - 1)) }
 {
     for j in 1..view.symbol_count() {
         check_symbol(file, view, j)?;
@@ -123,7 +124,8 @@ fn check_each(file: u32, view: &ObjectView) -> Result<(), Refusal>
 #[tactic(auto, using(elf64_records::specs::laws::First::walk_step, elf64_records::specs::laws::First::walk_none))]
 fn check_values(file: u32, view: &ObjectView) -> Result<(), Refusal>
     requires { first_from (symbol_refusal file view.now) 1 (symbol_count view.now - 1) ≡ None }
-    ensures { Refuses result (first_from (value_refusal file view.now) 1 (symbol_count view.now - 1)) }
+    ensures { Refuses result
+        (first_from (value_refusal file view.now) 1 (symbol_count view.now - 1)) }
 {
     for j in 1..view.symbol_count() {
         check_value(file, view, j)?;

@@ -10,6 +10,7 @@ pub fn put_then_read()
 
 /// A number beside the place of a write is as before.
 pub fn put_keeps_others()
-    ensures { (n m at place x : ℕ) (b : List ℕ) → at + n ≤ length b → (place + m ≤ at) ⊎ (at + n ≤ place) →
+    ensures { (n m at place x : ℕ) (b : List ℕ) → at + n ≤ length b →
+        (place + m ≤ at) ⊎ (at + n ≤ place) →
         number_at m (with_number n b at x) place ≡ number_at m b place }
 {}

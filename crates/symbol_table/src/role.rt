@@ -5,8 +5,8 @@ ghost use Rattle.object_set.specs.Files.{file_at};
 ghost use Rattle.symbol_table.specs.Externals.{role_of};
 
 use crate::definition::is_defined;
-use ppc_bytes::constants::{STB_GLOBAL};
 use object_set::ObjectSet;
+use ppc_bytes::constants::STB_GLOBAL;
 
 /// What a GLOBAL or WEAK symbol does for its name.
 #[derive(Clone, Copy)]

@@ -22,7 +22,8 @@ module _ {R : Type 0} (f : ℕ → Option R) where
       ap (first_from f i) left
 
   -- a number passes: what is left is the rest
-  pub walk_passes : (i n : ℕ) (all : Option R) → i < n → first_from f i (n - i) ≡ all → f i ≡ None → first_from f (i + 1) (n - (i + 1)) ≡ all
+  pub walk_passes : (i n : ℕ) (all : Option R) → i < n → first_from f i (n - i) ≡ all → f i ≡ None →
+      first_from f (i + 1) (n - (i + 1)) ≡ all
   walk_passes i n all within so_far passes =
       sym (ap (λ o. o orelse first_from f (i + 1) (n - (i + 1))) passes) ∙ sym (walk_step i n within) ∙ so_far
 

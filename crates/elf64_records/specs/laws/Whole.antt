@@ -17,7 +17,8 @@ use Rattle.elf64_records.specs.Records.{has_records, record_count, r_symbol}
 use Rattle.elf64_records.specs.Faults.{first_section, header_fault, range_fault, name_fault, sections_fault, second_fault, symbol_table_fault, symbol_fault, symbols_fault, record_fault, records_fault, rela_fault, has_entries, object_fault}
 
 -- a section of a file whose ranges are whole lies in the file
-pub section_in_file : (b : List ℕ) (i : ℕ) → first_section b (range_fault b) ≡ None → i < e_shnum b → has_bytes b i ≡ true → sh_offset b i + sh_size b i ≤ length b
+pub section_in_file : (b : List ℕ) (i : ℕ) → first_section b (range_fault b) ≡ None → i < e_shnum b → has_bytes b i ≡ true →
+    sh_offset b i + sh_size b i ≤ length b
 unfolding range_fault
 section_in_file b i whole within stored =
     let above : 1 ≤ i = grind (arith, nat_tests) in
@@ -44,7 +45,8 @@ name_in_table b i whole above within =
 pub symbol_name_in_table : (b : List ℕ) (j : ℕ) → symbols_fault b ≡ None → j < symbol_count b → st_name b j < length (symbol_names b)
 unfolding symbol_fault
 symbol_name_in_table b j whole within =
-    let others = both_none (first_section b (second_fault b)) (symbol_table_fault b orelse first_from (symbol_fault b) 0 (symbol_count b)) whole in
+    let others = both_none (first_section b (second_fault b))
+    (symbol_table_fault b orelse first_from (symbol_fault b) 0 (symbol_count b)) whole in
     let table_and_names = both_none (symbol_table_fault b) (first_from (symbol_fault b) 0 (symbol_count b)) others.1 in
     let passes : symbol_fault b j ≡ None = walk_none (symbol_fault b) 0 (symbol_count b) j table_and_names.1 (omega arith) (omega arith) in
     zero_within (symbol_names b) (st_name b j) (grind (arith, passes))
@@ -94,7 +96,8 @@ record_passes b i k passes within =
     walk_none (record_fault b i) 0 (sh_size b i / 24) k table_and_records.1 (omega arith) (omega arith)
 
 -- a record that is read names a symbol of the file
-pub symbol_in_range : (b : List ℕ) (i k : ℕ) → object_fault b ≡ None → i < e_shnum b → k < record_count b i → r_symbol b i k < symbol_count b
+pub symbol_in_range : (b : List ℕ) (i k : ℕ) → object_fault b ≡ None → i < e_shnum b → k < record_count b i →
+    r_symbol b i k < symbol_count b
 unfolding record_fault
 symbol_in_range b i k whole within read =
     let about_kept : has_records b i ≡ true = read_has_records b i k read in

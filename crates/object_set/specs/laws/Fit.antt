@@ -57,7 +57,8 @@ pub power_of_two : (n : ℕ) → is_power_of_two n ≡ true → IsPowerOfTwo n
 power_of_two n one = one_bit n n (omega arith) (grind (arith, nat_tests))
 
 -- none of the files is refused
-files_fit : (first : ℕ) (files : List (List ℕ)) (k : ℕ) → files_refusal first files ≡ None → k < length files → file_refusal (first + k) (file_at files k) ≡ None
+files_fit : (first : ℕ) (files : List (List ℕ)) (k : ℕ) → files_refusal first files ≡ None → k < length files →
+    file_refusal (first + k) (file_at files k) ≡ None
 files_fit first [] k none within = absurd (omega arith)
 files_fit first (b ∷ rest) zero none within =
     ap (λ n. file_refusal n b) (add-zero first) ∙ (both_none (file_refusal first b) (files_refusal (first + 1) rest) none).0
@@ -67,7 +68,8 @@ files_fit first (b ∷ rest) (suc k) none within =
     ap (λ n. file_refusal n (file_at rest k)) (sym same) ∙ later
 
 pub file_fit : (set : List (List ℕ)) (file : ℕ) → set_refusal set ≡ None → file < length set → file_refusal file (file_at set file) ≡ None
-file_fit set file none within = let e : 0 + file ≡ file = omega arith in ap (λ n. file_refusal n (file_at set file)) (sym e) ∙ files_fit 0 set file none within
+file_fit set file none within = let e : 0 + file ≡ file = omega arith in ap (λ n. file_refusal n (file_at set file)) (sym e)
+    ∙ files_fit 0 set file none within
 
 -- none of the parts of a file is refused
 pub record IsFitFile (file : ℕ) (b : List ℕ) : Type 0 where
@@ -80,22 +82,26 @@ pub record IsFitFile (file : ℕ) (b : List ℕ) : Type 0 where
 parts_fit : (file : ℕ) (b : List ℕ) → file_refusal file b ≡ None → IsFitFile file b
 unfolding file_refusal
 parts_fit file b fit =
-    let first = both_none (length_refusal file b) (fault_refusal file b orelse (sections_refusal file b orelse symbols_refusal file b)) fit in
+    let first = both_none (length_refusal file b)
+    (fault_refusal file b orelse (sections_refusal file b orelse symbols_refusal file b)) fit in
     let second = both_none (fault_refusal file b) (sections_refusal file b orelse symbols_refusal file b) first.1 in
     let third = both_none (sections_refusal file b) (symbols_refusal file b) second.1 in
-    let last = both_none (first_from (symbol_refusal file b) 1 (symbol_count b - 1)) (first_from (value_refusal file b) 1 (symbol_count b - 1)) third.1 in
+    let last = both_none (first_from (symbol_refusal file b) 1 (symbol_count b - 1))
+    (first_from (value_refusal file b) 1 (symbol_count b - 1)) third.1 in
     record { length = first.0; fault = second.0; sections = third.0; symbols = last.0; values = last.1 }
 
 -- a file that isn't refused has no fault
 no_fault : (file : ℕ) (b : List ℕ) → fault_refusal file b ≡ None → object_fault b ≡ None
 unfolding fault_refusal
-no_fault file b fit = elim (object_fault b) as (λ o. option_map (refusal_of file) o ≡ None → o ≡ None) [ None ↦ λ _. refl | Some fault ↦ λ some. cc ] fit
+no_fault file b fit = elim (object_fault b) as
+    (λ o. option_map (refusal_of file) o ≡ None → o ≡ None) [ None ↦ λ _. refl | Some fault ↦ λ some. cc ] fit
 
 section_passes : (file : ℕ) (b : List ℕ) (i : ℕ) → IsFitFile file b → is_kept b i ≡ true → i < e_shnum b → kept_refusal file b i ≡ None
 unfolding section_refusal
 section_passes file b i fit kept within =
     let above : 1 ≤ i = grind (arith, nat_tests) in
-    let passes : section_refusal file b i ≡ None = walk_none (section_refusal file b) 1 (e_shnum b - 1) i fit.sections above (omega arith) in
+    let passes : section_refusal file b i ≡ None =
+    walk_none (section_refusal file b) 1 (e_shnum b - 1) i fit.sections above (omega arith) in
     grind (arith, nat_tests, passes, kept)
 
 -- what is asked of a kept section
@@ -145,13 +151,15 @@ align_power : (b : List ℕ) (i : ℕ) → has_fit_align b i ≡ true → IsPowe
 align_power b i fit = least_power (if is_text b i then 4 else 1) (sh_addralign b i) (grind arith) (fit_align b i fit)
 
 -- a section of a whole file whose bytes stand in it has them all
-pub length-section_bytes : (b : List ℕ) (i : ℕ) → object_fault b ≡ None → i < e_shnum b → has_bytes b i ≡ true → length (section_bytes b i) ≡ sh_size b i
+pub length-section_bytes : (b : List ℕ) (i : ℕ) → object_fault b ≡ None → i < e_shnum b → has_bytes b i ≡ true →
+    length (section_bytes b i) ≡ sh_size b i
 length-section_bytes b i whole within stored =
     let ranges = (both_none (first_section b (range_fault b)) (first_section b (name_fault b)) (sections_whole b whole)).0 in
     let inside : sh_offset b i + sh_size b i ≤ length b = section_in_file b i ranges within stored in
     let size : sh_offset b i + sh_size b i - sh_offset b i ≡ sh_size b i = omega arith in
     let room : sh_size b i ≤ length (drop (sh_offset b i) b) = simp length-drop (omega arith) in
-    let taken : length (take (sh_size b i) (drop (sh_offset b i) b)) ≡ sh_size b i = length-take-le (sh_size b i) (drop (sh_offset b i) b) room in
+    let taken : length (take (sh_size b i) (drop (sh_offset b i) b)) ≡ sh_size b i =
+    length-take-le (sh_size b i) (drop (sh_offset b i) b) room in
     let all : section_bytes b i ≡ take (sh_size b i) (drop (sh_offset b i) b) = grind (arith, stored, size) in
     ap length all ∙ taken
 
@@ -164,7 +172,8 @@ kept_stored b i kept not_zeroed a =
     grind (arith, nat_tests, kept, not_zeroed, text, kind)
 
 -- the kept sections of a file that isn't refused
-pub section_fit : (file : ℕ) (b : List ℕ) (i : ℕ) → file_refusal file b ≡ None → i < e_shnum b → is_kept_sort (sort_of b i) ≡ true → IsFitSection b i
+pub section_fit : (file : ℕ) (b : List ℕ) (i : ℕ) → file_refusal file b ≡ None → i < e_shnum b → is_kept_sort (sort_of b i) ≡ true →
+    IsFitSection b i
 unfolding sort_of
 section_fit file b i fit within kept =
     let parts = parts_fit file b fit in
@@ -236,13 +245,15 @@ text_kept b j text =
 pub symbol_fit : (file : ℕ) (b : List ℕ) (j : ℕ) → file_refusal file b ≡ None → 1 ≤ j → j < symbol_count b → IsFitSymbol b j
 symbol_fit file b j fit above within =
     let parts = parts_fit file b fit in
-    let itself : symbol_refusal file b j ≡ None = walk_none (symbol_refusal file b) 1 (symbol_count b - 1) j parts.symbols above (omega arith) in
+    let itself : symbol_refusal file b j ≡ None =
+    walk_none (symbol_refusal file b) 1 (symbol_count b - 1) j parts.symbols above (omega arith) in
     let lies : value_refusal file b j ≡ None = walk_none (value_refusal file b) 1 (symbol_count b - 1) j parts.values above (omega arith) in
     let a = asked_symbol file b j itself in
     let each = all_false (not (is_known_binding (binding b j))) (not (is_known_index (e_shnum b) (index_of b j)))
     (is_toc_base b j && not (is_undefined b j)) (is_local b j && is_common b j) a.fit in
     let place : is_known_index (e_shnum b) (index_of b j) ≡ true = not_false (is_known_index (e_shnum b) (index_of b j)) each.1 in
-    let power : is_common b j ≡ true → is_power_up_to 0x10000 (st_value b j) ≡ true = and_not (is_common b j) (is_power_up_to 0x10000 (st_value b j)) a.common in
+    let power : is_common b j ≡ true → is_power_up_to 0x10000 (st_value b j) ≡ true =
+    and_not (is_common b j) (is_power_up_to 0x10000 (st_value b j)) a.common in
     let asked = asked_value file b j lies in
     let both = neither (lies_in_kept b j) (nat_lt (sh_size b (index_of b j)) (st_value b j)) (has_unfit_entries b j) asked in
     record {
@@ -255,5 +266,6 @@ symbol_fit file b j fit above within =
       common_align_most = λ common. grind (arith, nat_tests, power common);
       within = λ kept. grind (arith, nat_tests, (both kept).0);
       entries = λ text.
-          and_not (lies_in_text b j) (has_entries (entry_points b j) (st_value b j) (sh_size b (index_of b j))) (both (text_kept b j text)).1 text;
+          and_not (lies_in_text b j) (has_entries (entry_points b j) (st_value b j) (sh_size b (index_of b j)))
+          (both (text_kept b j text)).1 text;
     }

@@ -32,7 +32,8 @@ row_more P n row x are this = record {
         | inr most ↦ (
             let same : n ≡ i = omega arith in
             let last : length row ≡ i = omega (arith, are.count) in
-            let read : slice_index_or (row ++ x ∷ []) i 0 ≡ x = ap (λ (j : ℕ). slice_index_or (row ++ x ∷ []) j 0) (sym last) ∙ index_last row x 0 in
+            let read : slice_index_or (row ++ x ∷ []) i 0 ≡ x = ap (λ (j : ℕ). slice_index_or (row ++ x ∷ []) j 0) (sym last)
+            ∙ index_last row x 0 in
             subst (P i) (sym read) (subst (λ (j : ℕ). P j x) same this))
       ];
 }
@@ -54,7 +55,8 @@ rows_more P width n rows row are this = record {
         | inr most ↦ (
             let same : n ≡ f = omega arith in
             let last : length rows ≡ f = omega (arith, are.count) in
-            let read : slice_index_or (rows ++ row ∷ []) f [] ≡ row = ap (λ (j : ℕ). slice_index_or (rows ++ row ∷ []) j []) (sym last) ∙ index_last rows row [] in
+            let read : slice_index_or (rows ++ row ∷ []) f [] ≡ row =
+            ap (λ (j : ℕ). slice_index_or (rows ++ row ∷ []) j []) (sym last) ∙ index_last rows row [] in
             subst (IsRow (P f) (width f)) (sym read) (subst (λ (j : ℕ). IsRow (P j) (width j) row) same this))
       ];
 }

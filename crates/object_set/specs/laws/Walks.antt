@@ -100,7 +100,8 @@ module _ {X : Type 0} (w : Walk X) where
   in_at file b zero m i x within found = absurd (omega arith)
   in_at file b (suc n) m i x within found =
       elim (cases_lt m n) [
-        | inl less ↦ get_left (items_in w file b n) (w.items file b n) (length (items_in w file b m) + i) x (in_at file b n m i x less found)
+        | inl less ↦ get_left (items_in w file b n) (w.items file b n) (length (items_in w file b m) + i) x
+            (in_at file b n m i x less found)
         | inr most ↦ (
             let same : m ≡ n = omega arith in
             let P : ℕ → Type 0 = λ j. slice_get (items_in w file b j ++ w.items file b j) (length (items_in w file b m) + i) ≡ Some x in
@@ -137,7 +138,14 @@ module _ {X : Type 0} (w : Walk X) where
       elim (get_split (items_in w file b n) (w.items file b n) k x found) [
         | inl here ↦ (
             let before = in_from file b n k x here in
-            record { number = before.number; offset = before.offset; within = omega (arith, before.within); here = before.here; index = before.index })
+            record {
+              number = before.number;
+              offset = before.offset;
+              within = omega (arith, before.within);
+              here = before.here;
+              index =
+                  before.index;
+            })
         | inr past ↦ record { number = n; offset = past.0; within = omega arith; here = past.2; index = sym past.1 }
       ]
 

@@ -30,13 +30,15 @@ length-with_number n b at x room =
     simp (length-append, length-drop) (omega (arith, bytes, front))
 
 -- a part that lies in the front of a list
-part_in_front : (m place : ℕ) (front rest : List ℕ) → place + m ≤ length front → take m (drop place (front ++ rest)) ≡ take m (drop place front)
+part_in_front : (m place : ℕ) (front rest : List ℕ) → place + m ≤ length front → take m (drop place (front ++ rest))
+    ≡ take m (drop place front)
 part_in_front m place front rest within =
     let longer : m ≤ length (drop place front) = simp length-drop (omega arith) in
     ap (take m) (drop-append-le place front rest (omega arith)) ∙ take-append-le m (drop place front) rest longer
 
 -- a number before the place of a write
-pub before_write : (n m at place x : ℕ) (b : List ℕ) → at + n ≤ length b → place + m ≤ at → number_at m (with_number n b at x) place ≡ number_at m b place
+pub before_write : (n m at place x : ℕ) (b : List ℕ) → at + n ≤ length b → place + m ≤ at → number_at m (with_number n b at x) place
+    ≡ number_at m b place
 before_write n m at place x b room before =
     let within : place + m ≤ length (take at b) = rw (length-take-le at b (omega arith)) before in
     let here = part_in_front m place (take at b) (little_bytes n x ++ drop (at + n) b) within in
@@ -44,7 +46,8 @@ before_write n m at place x b room before =
     ap number (here ∙ sym there ∙ ap (λ l. take m (drop place l)) (take-append-drop at b))
 
 -- a number behind the place of a write
-pub after_write : (n m at place x : ℕ) (b : List ℕ) → at + n ≤ length b → at + n ≤ place → number_at m (with_number n b at x) place ≡ number_at m b place
+pub after_write : (n m at place x : ℕ) (b : List ℕ) → at + n ≤ length b → at + n ≤ place → number_at m (with_number n b at x) place
+    ≡ number_at m b place
 after_write n m at place x b room after =
     let bytes = length-bytes_low_first 0 n x in
     let front = length-take-le at b (omega arith) in
@@ -53,6 +56,7 @@ after_write n m at place x b room after =
     ap (λ l. number (take m l)) (ap (drop place) joined ∙ drop-append-drop (at + n) b (take at b ++ little_bytes n x) place after size)
 
 -- a number beside the place of a write
-pub others_stay : (n m at place x : ℕ) (b : List ℕ) → at + n ≤ length b → (place + m ≤ at) ⊎ (at + n ≤ place) → number_at m (with_number n b at x) place ≡ number_at m b place
+pub others_stay : (n m at place x : ℕ) (b : List ℕ) → at + n ≤ length b → (place + m ≤ at) ⊎ (at + n ≤ place) →
+    number_at m (with_number n b at x) place ≡ number_at m b place
 others_stay n m at place x b room (inl before) = before_write n m at place x b room before
 others_stay n m at place x b room (inr after) = after_write n m at place x b room after

@@ -1,3 +1,4 @@
+-- As much of the table as the name asked for is long, and a byte, tells whether it is the name there.
 use Rattle.std.proofs.Common.{◌∙◌}
 use Rattle.elf64_records.proofs.Zeros.{named_by_front}
 use Rattle.elf64_records.proofs.names.is_named.Goals as goal

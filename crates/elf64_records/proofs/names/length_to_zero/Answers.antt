@@ -1,3 +1,4 @@
+-- Where no byte is zero, all of them stand before the first zero byte.
 use Rattle.std.proofs.Common.{eqb, sym}
 use Rattle.elf64_records.proofs.Zeros.{position-none}
 use Rattle.elf64_records.proofs.names.length_to_zero.Goals as goal

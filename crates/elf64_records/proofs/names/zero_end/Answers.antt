@@ -1,3 +1,4 @@
+-- Past the last zero byte, and where there is none, no place is followed by one; every place before it is.
 use Rattle.std.proofs.Common.{arith}
 use Rattle.elf64_records.proofs.Zeros.{zeros_end}
 use Rattle.elf64_records.proofs.names.zero_end.Goals as goal

@@ -1,3 +1,4 @@
+-- The section of a symbol that is fit by itself is one of the file.
 use Rattle.std.proofs.Common.{arith}
 use Rattle.object_set.specs.laws.Fit.{index_in_range}
 use Rattle.object_set.proofs.symbols.check_value.Goals as goal

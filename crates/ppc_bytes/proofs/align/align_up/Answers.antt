@@ -1,3 +1,4 @@
+-- The next multiple above a number that is none.
 use Rattle.std.proofs.Common.{arith}
 use Rattle.ppc_bytes.proofs.Aligning.{next_multiple}
 use Rattle.ppc_bytes.proofs.align.align_up.Goals as goal

@@ -1,3 +1,4 @@
+-- A number beside the place of a write stays.
 use Rattle.ppc_bytes.specs.laws.Places.{others_stay}
 use Rattle.ppc_bytes.proofs.laws.put_keeps_others.Goals as goal
 

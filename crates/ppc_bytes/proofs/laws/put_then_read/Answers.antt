@@ -1,3 +1,4 @@
+-- What was put is read again.
 use Rattle.ppc_bytes.specs.laws.Places.{read_back}
 use Rattle.ppc_bytes.proofs.laws.put_then_read.Goals as goal
 

@@ -1,3 +1,4 @@
+-- 0x10000 is a power of two.
 use Rattle.std.proofs.Common.{refl}
 use Rattle.ppc_bytes.proofs.tests.alignment_and_signed_ranges_at_their_ends.Goals as goal
 

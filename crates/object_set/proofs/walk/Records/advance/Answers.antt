@@ -80,7 +80,12 @@ pub invariant_of-self-2 : goal.invariant_of-self-2
 invariant_of-self-2 c =
     let s = c.loop-self.self-inside in
     let before = c.loop-self.invariant.within in
-    record { entry_in = omega (arith, before.entry_in); end_fits = before.end_fits; section = λ more. before.section (omega arith); each = before.each }
+    record {
+      entry_in = omega (arith, before.entry_in);
+      end_fits = before.end_fits;
+      section = λ more. before.section (omega arith);
+      each = before.each;
+    }
 
 pub returns : goal.returns
 returns c =
