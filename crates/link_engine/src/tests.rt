@@ -3,9 +3,9 @@ ghost use Rattle.std.specs.Prelude.{◌≡◌, ◌<◌};
 
 use crate::{FileBytes, Linked, Options, Refusal, Steps, link};
 use elf64_exec::{IMAGE_START, PAGE, read_exec};
-use elf64_records::constants::{SHN_COMMON, SHN_UNDEF};
 use object_builder::{FileHeader, Object, Record, Section, Symbol};
 use ppc_bytes::Memory;
+use ppc_bytes::constants::{SHN_COMMON, SHN_UNDEF};
 use std::alloc::Global;
 use std::marker::Brand;
 use std::sync::ledger::{Blank, Ledger};

@@ -1,5 +1,5 @@
 // Small object files, made of their symbols.
-use elf64_records::constants::{SHN_ABS, SHN_COMMON};
+use ppc_bytes::constants::{SHN_ABS, SHN_COMMON};
 use object_builder::{FileHeader, Object, Section, Stated, Symbol};
 use object_set::FileBytes;
 use ppc_bytes::Memory;
