@@ -229,7 +229,7 @@ impl<'a> Symbols<'a> {
 
     /// The place of a symbol's name in the table of the symbols' names.
     #[tactic(auto, unfolding(crate::specs::Symbols::st_name))]
-    fn name_place(&self, j: u32) -> usize
+    pub fn name_place(&self, j: u32) -> usize
         requires { j < self.now.count }
         ensures { result ≡ st_name self.now.sections.headers.bytes.now j }
     {

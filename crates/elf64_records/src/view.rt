@@ -4,7 +4,7 @@ ghost use Rattle.std.specs.Str.{bytes_eq};
 ghost use Rattle.elf64_records.specs.First.{Refuses};
 ghost use Rattle.elf64_records.specs.FileHeader.{e_shnum};
 ghost use Rattle.elf64_records.specs.Sections.{has_bytes, section_of};
-ghost use Rattle.elf64_records.specs.Symbols.{symbol_count, symbol_of};
+ghost use Rattle.elf64_records.specs.Symbols.{symbol_count, symbol_of, st_name};
 ghost use Rattle.elf64_records.specs.Records.{record_count, rela_of};
 ghost use Rattle.elf64_records.specs.Faults.{object_fault};
 
@@ -123,6 +123,14 @@ impl<'a> ObjectView<'a> {
         ensures size { result.size ≡ (symbol_of self.now j).size }
     {
         self.symbols.entry(j)
+    }
+
+    /// Where the name of symbol `j` begins in the string table of symbols (st_name): names that begin at one place are one name.
+    pub fn symbol_name_place(&self, j: u32) -> usize
+        requires { j < symbol_count self.now }
+        ensures { result ≡ st_name self.now j }
+    {
+        self.symbols.name_place(j)
     }
 
     /// Whether symbol `j` has this name. It takes no longer for a longer name in the file.
