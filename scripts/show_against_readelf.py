@@ -1,8 +1,9 @@
 #!/usr/bin/env python3
 """Compares `ppclink show` with `readelf -SsrW`, line by line, on objects that a real assembler wrote.
 
-Run it after `rt ci`, at the repository's top: scripts/show_against_readelf.py [PROGRAM]. It is skipped, with status 0, where
-there is no assembler for powerpc64le (powerpc64le-linux-gnu-as, or clang that has the target) or no readelf.
+Run it after `rt ci`, at the repository's top: scripts/show_against_readelf.py [PROGRAM]. Where the program isn't there it says so and ends with 2. It is
+skipped, with status 0 and a line that says what is missing, where there is no assembler for powerpc64le (powerpc64le-linux-gnu-as, or clang that has the
+target) or no readelf.
 """
 import re
 import shutil
@@ -106,16 +107,25 @@ def expected(path):
 
 
 def main():
+    if not PROGRAM.is_file():
+        print(f"no program {PROGRAM}: `rt ci` leaves it there, or name one")
+        return 2
     make = assembler()
-    if not make or not shutil.which("readelf"):
-        print("skipped: no assembler for powerpc64le, or no readelf")
+    if not make:
+        print("skipped: no assembler for powerpc64le: neither powerpc64le-linux-gnu-as nor a clang with that target")
+        return 0
+    if not shutil.which("readelf"):
+        print("skipped: no readelf")
         return 0
     failed = 0
     with tempfile.TemporaryDirectory() as folder:
         for name, text in SOURCES.items():
             source, out = f"{folder}/{name}.s", f"{folder}/{name}.o"
             Path(source).write_text(text)
-            subprocess.run(make(source, out), check=True)
+            made = subprocess.run(make(source, out), capture_output=True, text=True)
+            if made.returncode:
+                print(f"{name}: skipped: the assembler doesn't take it: {made.stderr.strip()}")
+                continue
             shown = subprocess.run([PROGRAM, "show", out], capture_output=True, text=True)
             wanted = expected(out)
             same = shown.returncode == 0 and shown.stdout.splitlines() == wanted

@@ -25,8 +25,10 @@ executes_once : (name file input : List ℕ) (budget : ℕ) (long : Option (List
     r ≡ r'
 executes_once name file input budget (Some text) r r' h k = sym h ∙ k
 executes_once name file input budget None r r' (inl a) (inl b) = one_fault_line name file r r' a b
-executes_once name file input budget None r r' (inl a) (inr b) = absurd (a.real (no_fault file b.runs.entry b.runs.segments a.fault b.runs.loads a.has))
-executes_once name file input budget None r r' (inr a) (inl b) = absurd (b.real (no_fault file a.runs.entry a.runs.segments b.fault a.runs.loads b.has))
+executes_once name file input budget None r r' (inl a) (inr b) =
+    absurd (a.real (no_fault file b.runs.entry b.runs.segments a.fault b.runs.loads a.has))
+executes_once name file input budget None r r' (inr a) (inl b) =
+    absurd (b.real (no_fault file a.runs.entry a.runs.segments b.fault a.runs.loads b.has))
 executes_once name file input budget None r r' (inr a) (inr b) = one_program file input budget r r' a b
 
 run_once : (budget : ℕ) (image : List ℕ) (input : Option (List ℕ)) (contents : List (List ℕ)) (r r' : Response) →

@@ -85,7 +85,9 @@ known s s' c c' found a result call = within a call.causes call.ends
     within NoMemory causes (is, same) = omega (arith, is)
 
 -- status 2 is that of words that aren't understood
-said_usage : (s s' : StoreState) (c c' : ConsoleState) (found : Option Request) (text : List ℕ) → Says s s' found 2 text → SaysUsage s s' found 2 text
+said_usage : (s s' : StoreState) (c c' : ConsoleState) (found : Option Request) (text : List ℕ) →
+    Says s s' found 2 text →
+    SaysUsage s s' found 2 text
 said_usage s s' c c' found text (inl usage) = usage
 said_usage s s' c c' found text (inr (inl unread)) = absurd (omega (arith, unread.status_is))
 said_usage s s' c c' found text (inr (inr response)) = absurd (omega (arith, response.status_is))
@@ -96,7 +98,8 @@ at_two : (s s' : StoreState) (c c' : ConsoleState) (found : Option Request) (a :
     IsSaid s s' c c' found 2
 at_two s s' c c' found a result call is =
     subst (IsSaid s s' c c' found) is
-    (said s s' c c' found a result (λ e. absurd (omega (arith, e, is))) (λ e. absurd (omega (arith, e, is))) (λ e. absurd (omega (arith, e, is))) call.causes call.ends)
+    (said s s' c c' found a result (λ e. absurd (omega (arith, e, is))) (λ e. absurd (omega (arith, e, is)))
+    (λ e. absurd (omega (arith, e, is))) call.causes call.ends)
 
 pub usage : (s s' : StoreState) (c c' : ConsoleState) (found : Option Request) (a : Report) (result : ℕ) →
     Call s s' c c' found a result →
@@ -176,7 +179,10 @@ but_three : (missing : Option (List ℕ)) (request : Request) (contents : List (
 but_three (Some name) request contents r some responds = ap status_of (sym responds)
 but_three None request contents r some responds = cc
 
-lacks_three : (told : Option Files) (request : Request) (r : Response) → LacksOne told (names_of request) → MayRespond told request r → status_of r ≡ 3
+lacks_three : (told : Option Files) (request : Request) (r : Response) →
+    LacksOne told (names_of request) →
+    MayRespond told request r →
+    status_of r ≡ 3
 lacks_three None request r lacks responds = absurd lacks
 lacks_three (Some files) request r lacks responds =
     but_three (first_missing files (names_of request)) request (contents_in files (names_of request)) r lacks responds
@@ -350,7 +356,8 @@ settled_unread s s' found r name settled unread = by_cause unread.cause
   where
     missing : IsFirstMissing s.told (names_asked found) name → status_of r ≡ 3
     missing is =
-        let asked : IsFirstMissing s.told (names_of settled.request) name = subst (λ f. IsFirstMissing s.told (names_asked f) name) settled.is is in
+        let asked : IsFirstMissing s.told (names_of settled.request) name = subst (λ f. IsFirstMissing s.told (names_asked f) name)
+        settled.is is in
         let over : first_missing settled.files (names_of settled.request) ≡ Some name =
         subst (λ t. IsFirstMissing t (names_of settled.request) name) settled.told asked in
         ap status_of
@@ -387,9 +394,11 @@ settled_text s s' c c' found a result status text call settled = by_report a cal
         text_or c c' status' status result text'.items
         (settled_says s s' found (printed status text) status' text'.items settled says) ends
     by_report Written causes ends =
-        absurd (not_text causes.out causes.image status text (settled_one s s' found (printed status text) (written causes.out causes.image) settled causes.comes))
+        absurd (not_text causes.out causes.image status text
+        (settled_one s s' found (printed status text) (written causes.out causes.image) settled causes.comes))
     by_report Unwritten causes ends =
-        absurd (not_text causes.out causes.image status text (settled_one s s' found (printed status text) (written causes.out causes.image) settled causes.comes))
+        absurd (not_text causes.out causes.image status text
+        (settled_one s s' found (printed status text) (written causes.out causes.image) settled causes.comes))
     by_report NoMemory causes (is, same) = inr (inr is)
 
 pub settled_store : (s s' : StoreState) (c c' : ConsoleState) (found : Option Request) (a : Report) (result status : ℕ) (text : List ℕ) →
@@ -401,9 +410,11 @@ settled_store s s' c c' found a result status text call settled = by_report a ca
     by_report : (a : Report) → Causes s s' found a → KeepsFiles s s'
     by_report (Text status' text') says = says_keeps s s' found status' text'.items says
     by_report Written causes =
-        absurd (not_text causes.out causes.image status text (settled_one s s' found (printed status text) (written causes.out causes.image) settled causes.comes))
+        absurd (not_text causes.out causes.image status text
+        (settled_one s s' found (printed status text) (written causes.out causes.image) settled causes.comes))
     by_report Unwritten causes =
-        absurd (not_text causes.out causes.image status text (settled_one s s' found (printed status text) (written causes.out causes.image) settled causes.comes))
+        absurd (not_text causes.out causes.image status text
+        (settled_one s s' found (printed status text) (written causes.out causes.image) settled causes.comes))
     by_report NoMemory causes = causes
 
 -- a text isn't said where an executable is settled
@@ -438,7 +449,10 @@ unrisen before now quiet risen = by_cause risen.rose
     by_cause (inl rose) = let same = quiet.same in omega (arith, same)
     by_cause (inr full) = quiet.sound full
 
-quiet_text : (status result : ℕ) (c c' : ConsoleState) → IsQuiet c.faults c'.faults → IsOr status result c c' → (result ≡ status) ⊎ (result ≡ 5)
+quiet_text : (status result : ℕ) (c c' : ConsoleState) →
+    IsQuiet c.faults c'.faults →
+    IsOr status result c c' →
+    (result ≡ status) ⊎ (result ≡ 5)
 quiet_text status result c c' quiet (inl is) = inl is
 quiet_text status result c c' quiet (inr (inl (is, risen))) = absurd (unrisen c.faults c'.faults quiet risen)
 quiet_text status result c c' quiet (inr (inr is)) = inr is

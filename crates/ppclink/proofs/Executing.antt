@@ -58,7 +58,8 @@ fault_report name file input budget fault text a has line stated is =
     line stated is
 
 -- the line for a file that is too long
-pub long_report : (image : List ℕ) (input : Option (List ℕ)) (budget : ℕ) (file given line : List ℕ) (text : Result (Vec ℕ Global) NoMem) (a : Report) →
+pub long_report : (image : List ℕ) (input : Option (List ℕ)) (budget : ℕ) (file given line : List ℕ) (text : Result (Vec ℕ Global) NoMem)
+    (a : Report) →
     long_line image input file given ≡ Some line →
     IfOk text (λ t. t.items ≡ line) →
     MatchResult text (λ t. a ≡ Text 1 t) (λ e. a ≡ NoMemory) →
@@ -99,8 +100,10 @@ cut_input : (image input file given whole : List ℕ) (budget : ℕ) (r : Respon
 cut_input image input file given whole budget r is h =
     elim (cut input_limit given whole is) [
       | inl long ↦
-          let here = subst (λ t. Executes image file given budget (t orelse too_long image_limit image file) r) (is_long input_limit input given long.0) h in
-          subst (λ t. Executes image file whole budget (t orelse too_long image_limit image file) r) (sym (is_long input_limit input whole long.1)) here
+          let here = subst (λ t. Executes image file given budget (t orelse too_long image_limit image file) r)
+          (is_long input_limit input given long.0) h in
+          subst (λ t. Executes image file whole budget (t orelse too_long image_limit image file) r)
+          (sym (is_long input_limit input whole long.1)) here
       | inr same ↦ subst (λ b. Executes image file b budget (too_long input_limit input b orelse too_long image_limit image file) r) same h
     ]
 

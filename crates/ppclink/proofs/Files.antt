@@ -8,7 +8,11 @@ use Rattle.std.proofs.lemmas.List.Folds.{list_all-map}
 use Rattle.ppclink.specs.Requests.{texts, is_file_name, are_files}
 use Rattle.ppclink.proofs.Reading.{length-texts}
 
-pub files_are : (words : List (String Global)) (named : Bool) → 0 < length words → length words ≤ 4096 → named ≡ list_all (λ w. is_file_name (string_bytes w)) words → named ≡ are_files (texts words)
+pub files_are : (words : List (String Global)) (named : Bool) →
+    0 < length words →
+    length words ≤ 4096 →
+    named ≡ list_all (λ w. is_file_name (string_bytes w)) words →
+    named ≡ are_files (texts words)
 files_are words named some few is =
     let count : length (texts words) ≡ length words = length-texts words in
     let all : list_all is_file_name (texts words) ≡ named = list_all-map is_file_name string_bytes words ∙ sym is in

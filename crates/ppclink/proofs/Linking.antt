@@ -122,7 +122,8 @@ comes store out options names contents outcome read links =
     comes_held store.told (link_to out options names) held.wholes (link_response out names outcome) held.are here
 
 -- the executable takes the place of its file, or couldn't
-pub write_causes : (old new : StoreState) (out image : List ℕ) (options options' : LinkOptions) (names contents : List (List ℕ)) (a : Report) →
+pub write_causes : (old new : StoreState) (out image : List ℕ) (options options' : LinkOptions) (names contents : List (List ℕ))
+    (a : Report) →
     options' ≡ options →
     HaveRead old.told names contents →
     LinksTo contents options' (Ok image) →
@@ -161,7 +162,8 @@ refuse_says old new out options options' names contents r same kept read (inr li
       store = kept;
     }))
 
-pub refuse_causes : (old new : StoreState) (out : List ℕ) (options options' : LinkOptions) (names contents : List (List ℕ)) (r : Refusal) (text : Result (Vec ℕ Global) NoRoom) (a : Report) →
+pub refuse_causes : (old new : StoreState) (out : List ℕ) (options options' : LinkOptions) (names contents : List (List ℕ)) (r : Refusal)
+    (text : Result (Vec ℕ Global) NoRoom) (a : Report) →
     options' ≡ options →
     new ≡ old →
     HaveRead old.told names contents →

@@ -30,7 +30,8 @@ contents-append : (files : List FileBytes) (f : FileBytes) → contents_of (file
 contents-append [] f = refl
 contents-append (g ∷ files) f = ap (λ l. g.bytes.items ∷ l) (contents-append files f)
 
-pub read_more : (old now : StoreState) (names : List (String Global)) (i : ℕ) (name : String Global) (files after : List FileBytes) (f : FileBytes) (text : List ℕ) →
+pub read_more : (old now : StoreState) (names : List (String Global)) (i : ℕ) (name : String Global) (files after : List FileBytes)
+    (f : FileBytes) (text : List ℕ) →
     i < length names →
     now ≡ old →
     text ≡ string_bytes (get_or names i name) →
@@ -93,7 +94,8 @@ fails_at old new names i name contents lt read fails =
       };
     }
 
-pub failed_one : (old now new : StoreState) (names : List (String Global)) (i : ℕ) (name : String Global) (contents : List (List ℕ)) (text : List ℕ) (e : OutsideError) →
+pub failed_one : (old now new : StoreState) (names : List (String Global)) (i : ℕ) (name : String Global) (contents : List (List ℕ))
+    (text : List ℕ) (e : OutsideError) →
     e ≡ Failed →
     now ≡ old →
     i < length names →

@@ -9,8 +9,9 @@ use Rattle.power_machine.specs.declared.machine.Outcome.{Outcome}
 use Rattle.power_machine.specs.declared.machine.Outcome.TheVariants as outcome
 use Rattle.power_machine.specs.declared.world.World.{World}
 use Rattle.power_machine.specs.declared.world.Event.{Event}
-use Rattle.power_machine.specs.Start.{IsStart, start_ranges, start_run, start_state}
+use Rattle.power_machine.specs.Start.{IsStart, start_ranges, start_run}
 use Rattle.power_machine.specs.Runs.{Going, Done, Gone}
+use Rattle.power_machine.specs.laws.Steps.{starts}
 use Rattle.power_machine.specs.Steps.{NumberRun, RunAnswers, run_of, machine_ranges}
 use Rattle.ppclink.specs.declared.running.RunText.{RunText}
 use Rattle.ppclink.specs.Runs.{printed, event_line, event_lines, left_line}
@@ -58,20 +59,9 @@ says entry budget status segments input new outcome.Budget text run (s, t) =
     record { progress = Going new; reaches = run; is = ap (printed 7) (sym t) ∙ ap (λ n. printed n text) (sym s) }
 says entry budget status segments input new outcome.Memory text run said = absurd said
 
--- a machine that was loaded, in a new world
-starts : (m : Machine) (w : World) (entry : ℕ) (segments : List Segment) (input : List ℕ) →
-    IsStart entry segments m →
-    drop w.taken w.input.items ≡ input →
-    drop w.used w.answers.items ≡ [] →
-    run_of m w ≡ start_run entry segments input []
-starts m w entry segments input start given answers =
-    ap (λ s. record { state = s; input = drop w.taken w.input.items; answers = drop w.used w.answers.items; events = m.events.items; ended = m.ended }) start.state
-    ∙ ap (λ i. record { state = start_state entry segments; input = i; answers = drop w.used w.answers.items; events = m.events.items; ended = m.ended }) given
-    ∙ ap (λ a. record { state = start_state entry segments; input = input; answers = a; events = m.events.items; ended = m.ended }) answers
-    ∙ ap (λ e. record { state = start_state entry segments; input = input; answers = []; events = e; ended = m.ended }) start.events
-    ∙ ap (λ o. record { state = start_state entry segments; input = input; answers = []; events = []; ended = o }) start.ended
-
-pub ran : (m : Machine) (w : World) (new : NumberRun) (entry budget n : ℕ) (segments : List Segment) (input : List ℕ) (events : List Event) (o : Outcome) (r : Result RunText NoRoom) →
+-- a machine that was loaded, in a new world, runs as its program does
+pub ran : (m : Machine) (w : World) (new : NumberRun) (entry budget n : ℕ) (segments : List Segment) (input : List ℕ)
+    (events : List Event) (o : Outcome) (r : Result RunText NoRoom) →
     IsStart entry segments m →
     drop w.taken w.input.items ≡ input →
     drop w.used w.answers.items ≡ [] →
@@ -82,7 +72,7 @@ pub ran : (m : Machine) (w : World) (new : NumberRun) (entry budget n : ℕ) (se
     IfOk r (λ t. RunSays entry segments input budget t.status t.text.items)
 ran m w new entry budget n segments input events o (Err e) start given answers count same run said = tt
 ran m w new entry budget n segments input events o (Ok t) start given answers count same run said =
-    let from = subst (λ old. RunAnswers (machine_ranges m) n old new o) (starts m w entry segments input start given answers) run in
+    let from = subst (λ old. RunAnswers (machine_ranges m) n old new o) (starts m w entry segments input [] start given answers) run in
     let over = subst (λ l. RunAnswers l n (start_run entry segments input []) new o) start.ranges from in
     let here = subst (λ k. RunAnswers (start_ranges segments) k (start_run entry segments input []) new o) count over in
     says entry budget t.status segments input new o t.text.items here (subst (λ e. SaysEnd e o t.status t.text.items) (sym same) said)

@@ -42,7 +42,8 @@ keeps_unchanged old new is =
     record { told = is.told; write_faults = is.write_faults; grows = omega arith }
 
 -- a text, if there was memory for it
-pub text_stated : (Is : ℕ → List ℕ → Type 0) (stated : Type 0) (status : ℕ) (line : List ℕ) (text : Result (Vec ℕ Global) NoRoom) (a : Report) →
+pub text_stated : (Is : ℕ → List ℕ → Type 0) (stated : Type 0) (status : ℕ) (line : List ℕ) (text : Result (Vec ℕ Global) NoRoom)
+    (a : Report) →
     (stated → Is status line) →
     IfOk text (λ t. t.items ≡ line) →
     OnOk text stated →
@@ -88,7 +89,9 @@ first_absent (Some files) name rest lacks = rw lacks
 contains_first : (name : List ℕ) (rest : List (List ℕ)) → Contains (name ∷ rest) name
 contains_first name rest = (0, omega arith, refl)
 
-pub first_unread : (old new : StoreState) (name : List ℕ) (rest : List (List ℕ)) → FetchFails old new name → IsUnread old new (name ∷ rest) name
+pub first_unread : (old new : StoreState) (name : List ℕ) (rest : List (List ℕ)) →
+    FetchFails old new name →
+    IsUnread old new (name ∷ rest) name
 first_unread old new name rest fails = record {
   among = contains_first name rest;
   cause = rose_or _ _ _ _ (first_absent old.told name rest) fails.cause;
@@ -119,7 +122,8 @@ index-texts (n ∷ names) zero d lt = refl
 index-texts (n ∷ names) (suc i) d lt = index-texts names i d (omega arith)
 
 -- the report where one of many couldn't be read
-pub many_unread : (old new : StoreState) (found : Option Request) (names : List (String Global)) (name : String Global) (i : ℕ) (e : Unfetched) (line : List ℕ) (text : Result (Vec ℕ Global) NoRoom) (a : Report) →
+pub many_unread : (old new : StoreState) (found : Option Request) (names : List (String Global)) (name : String Global) (i : ℕ)
+    (e : Unfetched) (line : List ℕ) (text : Result (Vec ℕ Global) NoRoom) (a : Report) →
     names_asked found ≡ texts names →
     e ≡ unfetched.Failed i →
     line ≡ string_bytes (get_or names i name) →

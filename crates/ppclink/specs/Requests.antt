@@ -73,7 +73,8 @@ usual_budget = 1000000
 
 -- the executable of a run, behind its options; None stands for a number that isn't allowed
 unfoldable pub run_from : Option ℕ → Option (List ℕ) → List (List ℕ) → Option Request
-run_from (Some budget) input (image ∷ []) = if is_file_name image then Some (run_image (record { input = input; budget = budget }) image) else None
+run_from (Some budget) input (image ∷ []) =
+    if is_file_name image then Some (run_image (record { input = input; budget = budget }) image) else None
 run_from budget input words = None
 
 -- [-i INPUT] IMAGE

@@ -45,7 +45,8 @@ symbol_line b j =
 unfoldable pub record_line : List ℕ → ℕ → ℕ → List ℕ
 record_line b i k =
     let r = rela_of b i k in
-    ended (codes "record" ▹ decimal i ▹ decimal k ▹ hex_long r.offset ▹ decimal r.kind ▹ decimal r.symbol ▹ hex_long (cast_unsigned w64 r.addend))
+    let addend = hex_long (cast_unsigned w64 r.addend) in
+    ended (codes "record" ▹ decimal i ▹ decimal k ▹ hex_long r.offset ▹ decimal r.kind ▹ decimal r.symbol ▹ addend)
 
 -- the lines of the first so many numbers
 abbrev pub lines : (ℕ → List ℕ) → ℕ → List ℕ

@@ -3,13 +3,9 @@
 
 mod fetching;
 mod lines;
-#[cfg(test)]
-mod link_tests;
 mod numbers;
 mod perform;
 mod report;
-#[cfg(test)]
-mod run_tests;
 mod run_text;
 mod running;
 mod show;

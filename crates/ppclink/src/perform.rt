@@ -142,7 +142,8 @@ pub fn perform<S: Store, L: Ledger>(
 ) -> Report
     ensures causes { Causes (S.state store.old) (S.state store.new)
         (request_of (texts words.now)) result }
-    ensures untouched { request_of (texts words.now) ≡ None → S.state store.new ≡ S.state store.old }
+    ensures untouched { request_of (texts words.now) ≡ None →
+        S.state store.new ≡ S.state store.old }
     ensures steps { steps.new ≡ steps.old }
 {
     match parse(words) {

@@ -27,7 +27,9 @@ pub enum Report {
 
 /// A text to print, if there was memory for it.
 pub fn text_report(status: u8, text: Result<Vec<u8>, Memory>) -> Report
-    ensures { MatchResult text (λ t. result ≡ Report.Text status t) (λ e. result ≡ Report.NoMemory) }
+    ensures { MatchResult text
+        (λ t. result ≡ Report.Text status t)
+        (λ e. result ≡ Report.NoMemory) }
 {
     match text {
         Ok(text) => Report::Text { status, text },

@@ -41,7 +41,8 @@ fn push_decimal(alloc: Global, text: &mut Vec<u8>, n: u64) -> Result<(), Memory>
 
 // The text goes on with the hexadecimal digits of bytes, and the line ends.
 fn push_bytes(alloc: Global, text: &mut Vec<u8>, bytes: &[u8]) -> Result<(), Memory>
-    ensures { OnOk result (text.new.items ≡ text.old.items ++ encode_lower bytes.now ++ codes "\n") }
+    ensures { OnOk result
+        (text.new.items ≡ text.old.items ++ encode_lower bytes.now ++ codes "\n") }
 {
     let digits = hex::encode(alloc, bytes)?;
     text.extend_from_slice(digits.as_bytes())?;

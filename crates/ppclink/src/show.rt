@@ -132,7 +132,8 @@ fn push_sections(
     count: u32,
 ) -> Result<(), Memory>
     requires { count ≤ e_shnum view.now - 1 }
-    ensures { OnOk result (text.new.items ≡ text.old.items ++ lines (λ n. section_line view.now (n + 1)) count) }
+    ensures { OnOk result (text.new.items
+        ≡ text.old.items ++ lines (λ n. section_line view.now (n + 1)) count) }
 {
     for n in 0..count {
         let line = section_line(alloc, view, n + 1)?;
@@ -143,7 +144,8 @@ fn push_sections(
 
 // Appends the lines of the symbols from 1 on.
 fn push_symbols(alloc: Global, text: &mut Vec<u8>, view: &ObjectView<'_>) -> Result<(), Memory>
-    ensures { OnOk result (text.new.items ≡ text.old.items ++ lines (λ n. symbol_line view.now (n + 1)) (symbol_count view.now - 1)) }
+    ensures { OnOk result (text.new.items ≡ text.old.items
+        ++ lines (λ n. symbol_line view.now (n + 1)) (symbol_count view.now - 1)) }
 {
     for n in 0..view.symbol_count().saturating_sub(1) {
         let line = symbol_line(alloc, view, n + 1)?;
@@ -177,7 +179,8 @@ fn push_tables(
     count: u32,
 ) -> Result<(), Memory>
     requires { count ≤ e_shnum view.now - 1 }
-    ensures { OnOk result (text.new.items ≡ text.old.items ++ lines (λ n. record_lines view.now (n + 1)) count) }
+    ensures { OnOk result (text.new.items
+        ≡ text.old.items ++ lines (λ n. record_lines view.now (n + 1)) count) }
 {
     for n in 0..count {
         push_records(alloc, text, view, n + 1)?;

@@ -1,3 +1,4 @@
+-- Words within the count that may all name files are files.
 use Rattle.std.proofs.Common.{arith}
 use Rattle.ppclink.proofs.Files.{files_are}
 use Rattle.ppclink.proofs.words.are_files.Goals as goal

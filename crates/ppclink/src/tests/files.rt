@@ -1,0 +1,206 @@
+// The files that the tables name.
+use elf64_records::constants::{STB_LOCAL, STT_FUNC};
+use object_builder::{FileHeader, Object, Section, Stated, Symbol};
+use ppc_outside::MemStore;
+use std::alloc::Global;
+use std::test::Fail;
+
+/// li r0,1; li r3,7; sc
+const TEXT: &[u8] = b"\x01\x00\x00\x38\x07\x00\x60\x38\x02\x00\x00\x44";
+
+/// The same behind a word outside the subset.
+const ZERO_FIRST: &[u8] = b"\x00\x00\x00\x00\x07\x00\x60\x38\x02\x00\x00\x44";
+
+const SECTION: Section = Section {
+    bytes: TEXT,
+    ..Section::TEXT
+};
+
+const START: Symbol = Symbol {
+    size: 12,
+    ..Symbol::START
+};
+
+/// The smallest object that links.
+pub const SMALLEST: Object = Object {
+    sections: &[SECTION],
+    symbols: &[START],
+    ..Object::EMPTY
+};
+
+/// The smallest object and others that differ from it in one thing.
+static OBJECTS: [(&str, Object); 12] = [
+    ("t.o", SMALLEST),
+    ("a.o", SMALLEST),
+    ("c.o", SMALLEST),
+    // nothing is kept, so the symbol defines nothing
+    (
+        "dropped.o",
+        Object {
+            sections: &[Section {
+                flags: 0,
+                ..SECTION
+            }],
+            ..SMALLEST
+        },
+    ),
+    // a second kept section, where another file has the first
+    (
+        "local.o",
+        Object {
+            symbols: &[Symbol {
+                info: STB_LOCAL << 4 | STT_FUNC,
+                ..START
+            }],
+            ..SMALLEST
+        },
+    ),
+    (
+        "late.o",
+        Object {
+            symbols: &[Symbol { value: 4, ..START }],
+            ..SMALLEST
+        },
+    ),
+    (
+        "aligned.o",
+        Object {
+            sections: &[Section {
+                align: 8,
+                ..SECTION
+            }],
+            ..SMALLEST
+        },
+    ),
+    (
+        "zero.o",
+        Object {
+            sections: &[Section {
+                bytes: ZERO_FIRST,
+                ..SECTION
+            }],
+            ..SMALLEST
+        },
+    ),
+    (
+        "shared.o",
+        Object {
+            header: FileHeader {
+                kind: 3,
+                ..FileHeader::OBJECT
+            },
+            ..SMALLEST
+        },
+    ),
+    (
+        "abi1.o",
+        Object {
+            header: FileHeader {
+                flags: 1,
+                ..FileHeader::OBJECT
+            },
+            ..SMALLEST
+        },
+    ),
+    // the symbol table ends one byte past the file's 496
+    (
+        "table.o",
+        Object {
+            symbol_table: Stated {
+                offset: Some(449),
+                ..Stated::TRUE
+            },
+            ..SMALLEST
+        },
+    ),
+    (
+        "name.o",
+        Object {
+            symbols: &[Symbol {
+                stated_name: Some(8),
+                ..START
+            }],
+            ..SMALLEST
+        },
+    ),
+];
+
+/// The first bytes of the smallest object.
+const FRONTS: [(&str, usize); 3] = [("3", 3), ("63", 63), ("495", 495)];
+
+/// The file header of an executable with one segment up to its entry, and from there to the size in the file.
+const HEADERS: [&str; 2] = [
+    "7f454c460201010000000000000000000200150001000000",
+    "40000000000000000000000000000000020000004000380001000000000000000100000005000000000001000000000000000010000000000000001000000000",
+];
+
+/// Programs as the digits of their bytes.
+const PROGRAMS: [(&str, &str); 3] = [
+    // li r0,1; li r3,7; sc
+    ("exits", "010000380700603802000044"),
+    // li r0,3; li r3,0; addi r4,r1,-256; li r5,16; sc; li r0,1; sc
+    (
+        "reads",
+        "030000380000603800ff81381000a038020000440100003802000044",
+    ),
+    // li r0,4; li r3,1; lis r4,0x1000; li r5,4; sc; li r0,1; sc
+    (
+        "writes",
+        "04000038010060380010803c0400a038020000440100003802000044",
+    ),
+];
+
+// The executable whose text has these digits, with so much more or less room in memory than in the file.
+fn program(alloc: Global, entry: u64, digits: &str, less: u64) -> Result<Vec<u8>, Fail> {
+    let text = hex::decode(alloc, digits)?;
+    let size = text.len() as u64;
+    let [front, back] = HEADERS;
+    let mut bytes = hex::decode(alloc, front)?;
+    bytes.extend_from_slice(&entry.to_le_bytes())?;
+    bytes.extend_from_slice(&hex::decode(alloc, back)?)?;
+    bytes.extend_from_slice(&size.to_le_bytes())?;
+    bytes.extend_from_slice(&size.saturating_sub(less).to_le_bytes())?;
+    bytes.extend_from_slice(&0x1_0000_u64.to_le_bytes())?;
+    bytes.resize(0x1_0000, 0)?;
+    bytes.extend_from_slice(&text)?;
+    Ok(bytes)
+}
+
+/// The executable of the smallest object, of 65,548 bytes, with this entry.
+pub fn executable(alloc: Global, entry: u64) -> Result<Vec<u8>, Fail> {
+    program(alloc, entry, "010000380700603802000044", 0)
+}
+
+fn add_objects(alloc: Global, store: &mut MemStore) -> Result<(), Fail> {
+    for row in &OBJECTS {
+        store.add(row.0, &row.1.file(alloc)?)?;
+    }
+    Ok(())
+}
+
+fn add_fronts(alloc: Global, store: &mut MemStore) -> Result<(), Fail> {
+    let smallest = SMALLEST.file(alloc)?;
+    for (name, length) in FRONTS {
+        store.add(name, smallest.get(..length).ok_or("too short")?)?;
+    }
+    Ok(())
+}
+
+fn add_programs(alloc: Global, store: &mut MemStore) -> Result<(), Fail> {
+    for (name, digits) in PROGRAMS {
+        store.add(name, &program(alloc, 0x1000_0000, digits, 0)?)?;
+    }
+    let broken = program(alloc, 0x1000_0000, "010000380700603802000044", 1)?;
+    store.add("broken", &broken)?;
+    Ok(())
+}
+
+/// A store with all the files.
+pub fn files(alloc: Global) -> Result<MemStore, Fail> {
+    let mut store = MemStore::new(alloc);
+    add_objects(alloc, &mut store)?;
+    add_fronts(alloc, &mut store)?;
+    add_programs(alloc, &mut store)?;
+    store.add("in", b"hi\n")?;
+    Ok(store)
+}
