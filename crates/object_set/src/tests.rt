@@ -1,159 +1,89 @@
-// A small object file, and what is said of it where a part or two are others.
+// A small object file, and what is said of it where a number or two are others.
 ghost use Rattle.std.specs.Prelude.{◌≤◌, length};
 
 use crate::{FileBytes, ObjectSet, Refusal, Sort};
 use elf64_records::Place;
-use object_builder::{FileHeader, Object, Record, Section, Stated, Symbol};
-use ppc_bytes::Memory;
-use ppc_bytes::constants::{
-    SHF_ALLOC, SHF_COMPRESSED, SHF_EXECINSTR, SHF_TLS, SHF_WRITE, SHN_ABS, SHN_COMMON, SHN_UNDEF,
-    SHN_XINDEX, SHT_FINI_ARRAY, SHT_GROUP, SHT_INIT_ARRAY, SHT_NOBITS, SHT_NOTE, SHT_NULL, SHT_REL,
-    SHT_RELA, SHT_STRTAB, SHT_SYMTAB_SHNDX,
-};
-use std::alloc::Global;
+use std::alloc::{AllocError, Global};
 use std::test::Fail;
 
-/// Something else in the small file: in the header of section 1, unless another is named, or in the entry of symbol 1.
-#[derive(Clone, Copy)]
-enum Change {
-    /// Nothing.
-    None,
-    /// The section's name.
-    Name(&'static [u8]),
-    Type(u32),
-    Flags(u64),
-    Size(u64),
-    Align(u64),
-    /// The type of section 0.
-    NullType(u32),
-    /// The flags of section 0, and of the symbols' names.
-    NullFlags(u64),
-    StringsFlags(u64),
-    /// The alignment of the symbols' names.
-    StringsAlign(u64),
-    /// The symbol's name, st_info, st_other, st_shndx and st_value.
-    SymbolName(&'static [u8]),
-    Info(u8),
-    Other(u8),
-    Index(u16),
-    Value(u64),
-    /// A LOCAL or WEAK function of this index.
-    Local(u16),
-    Weak(u16),
-    /// st_info, st_shndx and st_value of symbol 0.
-    NullInfo(u8),
-    NullIndex(u16),
-    NullValue(u64),
+/// Bytes, and the place in a file where they stand.
+type Part = (u16, &'static [u8]);
+
+/// A number, with its place in the file and its width in bytes before it.
+type Change = (u16, u8, u64);
+
+/// A file with a text section of three instructions and one symbol, `_start`: the file header, the bytes of four sections from 64 on,
+/// and five section headers from 176 on. Symbol 1 is at 104 and the header of section 1 at 240. Behind
+/// them, at 520 and 544, there are two symbols more.
+const SMALL: [Part; 37] = [
+    (0, b"\x7fELF\x02\x01\x01"),
+    (16, b"\x01\x00\x15\x00\x01"),
+    (40, b"\xb0"),
+    (48, b"\x02"),
+    (52, b"\x40"),
+    (58, b"\x40\x00\x05\x00\x04"),
+    (64, b"\x01\x00\x00\x38\x07\x00\x60\x38\x02\x00\x00\x44"),
+    (104, b"\x01\x00\x00\x00\x12\x00\x01\x00"),
+    (120, b"\x0c"),
+    (129, b"_start"),
+    (137, b".text\x00.symtab\x00.strtab\x00.shstrtab"),
+    (240, b"\x01"),
+    (244, b"\x01"),
+    (248, b"\x06"),
+    (264, b"\x40"),
+    (272, b"\x0c"),
+    (288, b"\x04"),
+    (304, b"\x07"),
+    (308, b"\x02"),
+    (328, b"\x50"),
+    (336, b"\x30"),
+    (344, b"\x03"),
+    (348, b"\x01"),
+    (352, b"\x08"),
+    (360, b"\x18"),
+    (368, b"\x0f"),
+    (372, b"\x03"),
+    (392, b"\x80"),
+    (400, b"\x08"),
+    (416, b"\x01"),
+    (432, b"\x17"),
+    (436, b"\x03"),
+    (456, b"\x88"),
+    (464, b"\x21"),
+    (480, b"\x01"),
+    (520, b"\x01\x00\x00\x00\x12\x00\x01\x00"),
+    (544, b"\x01\x00\x00\x00\x12\x00\x01\x00"),
+];
+
+/// Puts bytes at a place, and says whether they all fit.
+fn put(b: &mut [u8], at: u16, bytes: &[u8]) -> bool {
+    for (k, byte) in bytes.iter().enumerate() {
+        if k >= b.len() || usize::from(at) >= b.len() - k {
+            return false;
+        }
+        b[usize::from(at) + k] = *byte;
+    }
+    true
 }
 
-use Change::{
-    Align, Flags, Index, Info, Local, Name, NullFlags, NullIndex, NullInfo, NullType, NullValue,
-    Other, Size, StringsAlign, StringsFlags, SymbolName, Type, Value, Weak,
-};
-
-/// Section 1: three instructions.
-fn section_with(changes: &[Change]) -> Section<'static> {
-    let mut section = Section {
-        bytes: b"\x01\x00\x00\x38\x07\x00\x60\x38\x02\x00\x00\x44",
-        ..Section::TEXT
-    };
-    for change in changes {
-        match *change {
-            Name(name) => section.name = name,
-            Type(kind) => section.kind = kind,
-            Flags(flags) => section.flags = flags,
-            Size(size) => section.stated.size = Some(size),
-            Align(align) => section.align = align,
-            _ => {}
+/// The small file with other numbers.
+fn small_with(alloc: Global, changes: &[Change]) -> Result<FileBytes, AllocError> {
+    let mut b = [0u8; 568];
+    for (at, bytes) in SMALL {
+        if !put(&mut b, at, bytes) {
+            return Err(AllocError);
         }
     }
-    section
-}
-
-/// Symbol 1: `_start` at the front of section 1.
-fn symbol_with(changes: &[Change]) -> Symbol<'static> {
-    let mut symbol = Symbol::START;
-    for change in changes {
-        match *change {
-            SymbolName(name) => symbol.name = name,
-            Info(info) => symbol.info = info,
-            Other(other) => symbol.other = other,
-            Index(index) => symbol.section = index,
-            Value(value) => symbol.value = value,
-            Local(index) => {
-                symbol.info = 0x02;
-                symbol.section = index;
-            }
-            Weak(index) => {
-                symbol.info = 0x22;
-                symbol.section = index;
-            }
-            _ => {}
+    for (at, width, number) in changes {
+        let bytes = number.to_le_bytes();
+        if !put(&mut b, *at, &bytes[..usize::from((*width).min(8))]) {
+            return Err(AllocError);
         }
     }
-    symbol
-}
-
-/// Symbol 0.
-fn null_symbol_with(changes: &[Change]) -> Symbol<'static> {
-    let mut symbol = Symbol::NULL;
-    for change in changes {
-        match *change {
-            NullInfo(info) => symbol.info = info,
-            NullIndex(index) => symbol.section = index,
-            NullValue(value) => symbol.value = value,
-            _ => {}
-        }
-    }
-    symbol
-}
-
-/// What the header of section 0 states.
-fn null_section_with(changes: &[Change]) -> Stated {
-    let mut stated = Stated::TRUE;
-    for change in changes {
-        match *change {
-            NullType(kind) => stated.kind = Some(kind),
-            NullFlags(flags) => stated.flags = Some(flags),
-            _ => {}
-        }
-    }
-    stated
-}
-
-/// What that of the symbols' names states.
-fn strings_with(changes: &[Change]) -> Stated {
-    let mut stated = Stated::TRUE;
-    for change in changes {
-        match *change {
-            StringsFlags(flags) => stated.flags = Some(flags),
-            StringsAlign(align) => stated.align = Some(align),
-            _ => {}
-        }
-    }
-    stated
-}
-
-fn named(alloc: Global, object: &Object) -> Result<FileBytes, Memory> {
     Ok(FileBytes {
         name: String::from_str(alloc, "small.o")?,
-        bytes: object.file(alloc)?,
+        bytes: Vec::from_slice(alloc, &b)?,
     })
-}
-
-/// The small file with something else.
-fn small_with(alloc: Global, changes: &[Change]) -> Result<FileBytes, Memory> {
-    let sections = [section_with(changes)];
-    let symbols = [symbol_with(changes)];
-    let object = Object {
-        sections: &sections,
-        symbols: &symbols,
-        null_symbol: null_symbol_with(changes),
-        null_section: null_section_with(changes),
-        symbol_names: strings_with(changes),
-        ..Object::EMPTY
-    };
-    named(alloc, &object)
 }
 
 /// What a refusal is, but for those of names and of records.
@@ -186,19 +116,20 @@ fn refused(alloc: Global, files: &[FileBytes]) -> Refused
 
 const OK: Refused = None;
 
-const NONE: Change = Change::None;
+/// No change.
+const NONE: Change = (0, 0, 0);
 
-const TOC: Change = Name(b".toc");
+/// Section 1 is called `.toc`.
+const TOC: Change = (139, 3, 0x63_6F);
 
-const TOC_BASE: Change = SymbolName(b".TOC.");
+/// Symbol 1 is called `.TOC.`.
+const TOC_BASE: Change = (129, 6, 0x2E43_4F54_2E);
 
 /// Section 1 is data that may be written.
-const DATA: Change = Flags(SHF_WRITE | SHF_ALLOC);
+const DATA: Change = (248, 8, 3);
 
 /// Section 1 isn't kept.
-const DROPPED: Change = Flags(0);
-
-const TEXT_FLAGS: u64 = SHF_ALLOC | SHF_EXECINSTR;
+const DROPPED: Change = (248, 8, 0);
 
 const UNSUPPORTED_SECTION: Refused = Some((Why::Unsupported, 0, Place::Section(1)));
 
@@ -213,91 +144,79 @@ const BAD_SECTION_ALIGN: Refused = Some((Why::Align, 0, Place::Section(1)));
 /// Numbers in the small file, and how the file that has them is refused for a section of it.
 const SECTIONS: [([Change; 2], Refused); 57] = [
     // types that are left out, kept or not
-    ([Type(SHT_REL), NONE], UNSUPPORTED_SECTION),
-    ([Type(SHT_GROUP), NONE], UNSUPPORTED_SECTION),
-    ([Type(SHT_SYMTAB_SHNDX), NONE], UNSUPPORTED_SECTION),
-    ([Type(SHT_REL), DROPPED], UNSUPPORTED_SECTION),
-    ([Type(SHT_GROUP), DROPPED], UNSUPPORTED_SECTION),
-    ([Type(10), DROPPED], OK),
-    (
-        [Type(SHT_REL), Flags(SHF_TLS | TEXT_FLAGS)],
-        UNSUPPORTED_SECTION,
-    ),
-    ([NullType(SHT_REL), NONE], OK),
+    ([(244, 4, 9), NONE], UNSUPPORTED_SECTION),
+    ([(244, 4, 17), NONE], UNSUPPORTED_SECTION),
+    ([(244, 4, 18), NONE], UNSUPPORTED_SECTION),
+    ([(244, 4, 9), DROPPED], UNSUPPORTED_SECTION),
+    ([(244, 4, 17), DROPPED], UNSUPPORTED_SECTION),
+    ([(244, 4, 10), DROPPED], OK),
+    ([(244, 4, 9), (248, 8, 0x406)], UNSUPPORTED_SECTION),
+    ([(180, 4, 9), NONE], OK),
     // thread-local storage
-    ([Flags(SHF_TLS | TEXT_FLAGS), NONE], TLS_SECTION),
-    ([Flags(SHF_TLS | SHF_WRITE | SHF_ALLOC), NONE], TLS_SECTION),
-    ([Flags(SHF_TLS | SHF_EXECINSTR), NONE], OK),
-    (
-        [Flags(SHF_TLS | SHF_WRITE | SHF_ALLOC), Type(5)],
-        TLS_SECTION,
-    ),
+    ([(248, 8, 0x406), NONE], TLS_SECTION),
+    ([(248, 8, 0x403), NONE], TLS_SECTION),
+    ([(248, 8, 0x404), NONE], OK),
+    ([(248, 8, 0x403), (244, 4, 5)], TLS_SECTION),
     // types of kept sections
-    ([Type(SHT_NULL), NONE], BAD_SECTION),
-    ([Type(SHT_STRTAB), NONE], BAD_SECTION),
-    ([Type(SHT_RELA), NONE], BAD_SECTION),
-    ([Type(5), NONE], BAD_SECTION),
-    ([Type(16), NONE], BAD_SECTION),
-    ([Type(0x101), NONE], BAD_SECTION),
-    ([Type(SHT_NOTE), NONE], OK),
-    ([Type(SHT_INIT_ARRAY), NONE], OK),
-    ([Type(SHT_FINI_ARRAY), NONE], OK),
-    ([Type(5), DROPPED], OK),
-    ([StringsFlags(SHF_ALLOC), NONE], BAD_SECTION_3),
-    ([NullFlags(SHF_ALLOC), NONE], OK),
+    ([(244, 4, 0), NONE], BAD_SECTION),
+    ([(244, 4, 3), NONE], BAD_SECTION),
+    ([(244, 4, 4), NONE], BAD_SECTION),
+    ([(244, 4, 5), NONE], BAD_SECTION),
+    ([(244, 4, 16), NONE], BAD_SECTION),
+    ([(244, 4, 0x101), NONE], BAD_SECTION),
+    ([(244, 4, 7), NONE], OK),
+    ([(244, 4, 14), NONE], OK),
+    ([(244, 4, 15), NONE], OK),
+    ([(244, 4, 5), DROPPED], OK),
+    ([(376, 8, 2), NONE], BAD_SECTION_3),
+    ([(184, 8, 2), NONE], OK),
     // compressed sections
-    (
-        [Flags(SHF_COMPRESSED | TEXT_FLAGS), NONE],
-        UNSUPPORTED_SECTION,
-    ),
-    ([Flags(SHF_COMPRESSED | SHF_EXECINSTR), NONE], OK),
-    ([Flags(SHF_COMPRESSED | TEXT_FLAGS), Type(5)], BAD_SECTION),
-    (
-        [Flags(SHF_COMPRESSED | SHF_WRITE | TEXT_FLAGS), NONE],
-        UNSUPPORTED_SECTION,
-    ),
+    ([(248, 8, 0x806), NONE], UNSUPPORTED_SECTION),
+    ([(248, 8, 0x804), NONE], OK),
+    ([(248, 8, 0x806), (244, 4, 5)], BAD_SECTION),
+    ([(248, 8, 0x807), NONE], UNSUPPORTED_SECTION),
     // text
-    ([Flags(SHF_WRITE | TEXT_FLAGS), NONE], BAD_SECTION),
-    ([Type(SHT_NOBITS), NONE], BAD_SECTION),
-    ([Size(11), NONE], BAD_SECTION),
-    ([Size(10), NONE], BAD_SECTION),
-    ([Size(8), NONE], OK),
-    ([Size(11), DATA], OK),
-    ([Type(SHT_NOBITS), DATA], OK),
-    ([Flags(SHF_ALLOC), NONE], OK),
-    ([Flags(0x1036), NONE], OK),
+    ([(248, 8, 7), NONE], BAD_SECTION),
+    ([(244, 4, 8), NONE], BAD_SECTION),
+    ([(272, 8, 11), NONE], BAD_SECTION),
+    ([(272, 8, 10), NONE], BAD_SECTION),
+    ([(272, 8, 8), NONE], OK),
+    ([(272, 8, 11), DATA], OK),
+    ([(244, 4, 8), DATA], OK),
+    ([(248, 8, 2), NONE], OK),
+    ([(248, 8, 0x1036), NONE], OK),
     // `.toc`
     ([TOC, NONE], BAD_SECTION),
     ([TOC, DATA], OK),
-    ([TOC, Flags(SHF_ALLOC)], OK),
+    ([TOC, (248, 8, 2)], OK),
     ([TOC, DROPPED], OK),
-    ([Name(b"-text"), DATA], OK),
+    ([(137, 1, 0x2D), DATA], OK),
     // alignments
-    ([Align(0), NONE], OK),
-    ([Align(1), NONE], OK),
-    ([Align(3), NONE], BAD_SECTION_ALIGN),
-    ([Align(12), NONE], BAD_SECTION_ALIGN),
-    ([Align(0x1_0000), NONE], OK),
-    ([Align(0x1_0001), NONE], BAD_SECTION_ALIGN),
-    ([Align(0x2_0000), NONE], BAD_SECTION_ALIGN),
-    ([Align(0x1_0000_0000), NONE], BAD_SECTION_ALIGN),
-    ([Align(1 << 63), NONE], BAD_SECTION_ALIGN),
-    ([Align(3), DROPPED], OK),
-    ([Align(0x2_0000), DATA], BAD_SECTION_ALIGN),
-    ([Align(3), StringsFlags(SHF_ALLOC)], BAD_SECTION_ALIGN),
-    ([Size(11), Align(3)], BAD_SECTION),
-    ([Align(3), Info(0x16)], BAD_SECTION_ALIGN),
-    ([StringsAlign(3), NONE], OK),
+    ([(288, 8, 0), NONE], OK),
+    ([(288, 8, 1), NONE], OK),
+    ([(288, 8, 3), NONE], BAD_SECTION_ALIGN),
+    ([(288, 8, 12), NONE], BAD_SECTION_ALIGN),
+    ([(288, 8, 0x1_0000), NONE], OK),
+    ([(288, 8, 0x1_0001), NONE], BAD_SECTION_ALIGN),
+    ([(288, 8, 0x2_0000), NONE], BAD_SECTION_ALIGN),
+    ([(288, 8, 0x1_0000_0000), NONE], BAD_SECTION_ALIGN),
+    ([(288, 8, 1 << 63), NONE], BAD_SECTION_ALIGN),
+    ([(288, 8, 3), DROPPED], OK),
+    ([(288, 8, 0x2_0000), DATA], BAD_SECTION_ALIGN),
+    ([(288, 8, 3), (376, 8, 2)], BAD_SECTION_ALIGN),
+    ([(272, 8, 11), (288, 8, 3)], BAD_SECTION),
+    ([(288, 8, 3), (108, 1, 0x16)], BAD_SECTION_ALIGN),
+    ([(416, 8, 3), NONE], OK),
 ];
 
 /// The same of `.toc` that may be written.
 const TOC_SECTIONS: [(Change, Refused); 6] = [
-    (Type(SHT_NOBITS), BAD_SECTION),
-    (Type(SHT_NOTE), BAD_SECTION),
-    (Type(SHT_INIT_ARRAY), BAD_SECTION),
-    (Align(0x100), OK),
-    (Align(0x200), BAD_SECTION_ALIGN),
-    (Align(6), BAD_SECTION_ALIGN),
+    ((244, 4, 8), BAD_SECTION),
+    ((244, 4, 7), BAD_SECTION),
+    ((244, 4, 14), BAD_SECTION),
+    ((288, 8, 0x100), OK),
+    ((288, 8, 0x200), BAD_SECTION_ALIGN),
+    ((288, 8, 6), BAD_SECTION_ALIGN),
 ];
 
 const UNSUPPORTED_SYMBOL: Refused = Some((Why::Unsupported, 0, Place::Symbol(1)));
@@ -311,80 +230,80 @@ const BAD_SYMBOL_ALIGN: Refused = Some((Why::Align, 0, Place::Symbol(1)));
 /// Numbers in the small file, and how the file that has them is refused for a symbol of it.
 const SYMBOLS: [([Change; 2], Refused); 66] = [
     // types and bindings
-    ([Info(0x16), NONE], TLS_SYMBOL),
-    ([Info(0x06), Index(SHN_UNDEF)], TLS_SYMBOL),
-    ([Info(0xA6), NONE], TLS_SYMBOL),
-    ([Info(0x1A), NONE], UNSUPPORTED_SYMBOL),
-    ([Info(0x3A), NONE], UNSUPPORTED_SYMBOL),
-    ([Info(0xA2), NONE], UNSUPPORTED_SYMBOL),
-    ([Info(0x32), NONE], BAD_SYMBOL),
-    ([Info(0xF2), NONE], BAD_SYMBOL),
-    ([Info(0x02), NONE], OK),
-    ([Info(0x22), NONE], OK),
-    ([Info(0x1F), NONE], OK),
+    ([(108, 1, 0x16), NONE], TLS_SYMBOL),
+    ([(108, 1, 0x06), (110, 2, 0)], TLS_SYMBOL),
+    ([(108, 1, 0xA6), NONE], TLS_SYMBOL),
+    ([(108, 1, 0x1A), NONE], UNSUPPORTED_SYMBOL),
+    ([(108, 1, 0x3A), NONE], UNSUPPORTED_SYMBOL),
+    ([(108, 1, 0xA2), NONE], UNSUPPORTED_SYMBOL),
+    ([(108, 1, 0x32), NONE], BAD_SYMBOL),
+    ([(108, 1, 0xF2), NONE], BAD_SYMBOL),
+    ([(108, 1, 0x02), NONE], OK),
+    ([(108, 1, 0x22), NONE], OK),
+    ([(108, 1, 0x1F), NONE], OK),
     // symbol 0 counts as nothing
-    ([NullInfo(0x16), NONE], OK),
-    ([NullInfo(0xFA), NullIndex(SHN_XINDEX)], OK),
-    ([NullIndex(1), NullValue(13)], OK),
+    ([(84, 1, 0x16), NONE], OK),
+    ([(84, 1, 0xFA), (86, 2, 0xFFFF)], OK),
+    ([(86, 2, 1), (88, 8, 13)], OK),
     // sections of symbols
-    ([Index(SHN_XINDEX), NONE], UNSUPPORTED_SYMBOL),
-    ([Index(0xFF00), NONE], BAD_SYMBOL),
-    ([Index(0xFFF0), NONE], BAD_SYMBOL),
-    ([Index(0xFFF3), NONE], BAD_SYMBOL),
-    ([Index(0xFEFF), NONE], BAD_SYMBOL),
-    ([Index(5), NONE], BAD_SYMBOL),
-    ([Index(4), NONE], OK),
-    ([Index(SHN_UNDEF), NONE], OK),
-    ([Index(SHN_ABS), NONE], OK),
+    ([(110, 2, 0xFFFF), NONE], UNSUPPORTED_SYMBOL),
+    ([(110, 2, 0xFF00), NONE], BAD_SYMBOL),
+    ([(110, 2, 0xFFF0), NONE], BAD_SYMBOL),
+    ([(110, 2, 0xFFF3), NONE], BAD_SYMBOL),
+    ([(110, 2, 0xFEFF), NONE], BAD_SYMBOL),
+    ([(110, 2, 5), NONE], BAD_SYMBOL),
+    ([(110, 2, 4), NONE], OK),
+    ([(110, 2, 0), NONE], OK),
+    ([(110, 2, 0xFFF1), NONE], OK),
     // `.TOC.`
     ([TOC_BASE, NONE], BAD_SYMBOL),
-    ([TOC_BASE, Index(SHN_ABS)], BAD_SYMBOL),
-    ([TOC_BASE, Index(SHN_COMMON)], BAD_SYMBOL),
-    ([TOC_BASE, Index(3)], BAD_SYMBOL),
-    ([TOC_BASE, Info(0x02)], BAD_SYMBOL),
-    ([TOC_BASE, Index(SHN_UNDEF)], OK),
-    ([TOC_BASE, Local(SHN_UNDEF)], OK),
+    ([TOC_BASE, (110, 2, 0xFFF1)], BAD_SYMBOL),
+    ([TOC_BASE, (110, 2, 0xFFF2)], BAD_SYMBOL),
+    ([TOC_BASE, (110, 2, 3)], BAD_SYMBOL),
+    ([TOC_BASE, (108, 1, 0x02)], BAD_SYMBOL),
+    ([TOC_BASE, (110, 2, 0)], OK),
+    ([TOC_BASE, (108, 4, 0x02)], OK),
     // common symbols
-    ([Index(SHN_COMMON), NONE], BAD_SYMBOL_ALIGN),
-    ([Index(SHN_COMMON), Value(1)], OK),
-    ([Index(SHN_COMMON), Value(3)], BAD_SYMBOL_ALIGN),
-    ([Index(SHN_COMMON), Value(0x1_0000)], OK),
-    ([Index(SHN_COMMON), Value(0x2_0000)], BAD_SYMBOL_ALIGN),
-    ([Index(SHN_COMMON), Value(1 << 63)], BAD_SYMBOL_ALIGN),
-    ([Local(SHN_COMMON), Value(4)], BAD_SYMBOL),
-    ([Weak(SHN_COMMON), Value(4)], OK),
+    ([(110, 2, 0xFFF2), NONE], BAD_SYMBOL_ALIGN),
+    ([(110, 2, 0xFFF2), (112, 8, 1)], OK),
+    ([(110, 2, 0xFFF2), (112, 8, 3)], BAD_SYMBOL_ALIGN),
+    ([(110, 2, 0xFFF2), (112, 8, 0x1_0000)], OK),
+    ([(110, 2, 0xFFF2), (112, 8, 0x2_0000)], BAD_SYMBOL_ALIGN),
+    ([(110, 2, 0xFFF2), (112, 8, 1 << 63)], BAD_SYMBOL_ALIGN),
+    ([(108, 4, 0xFFF2_0002), (112, 8, 4)], BAD_SYMBOL),
+    ([(108, 4, 0xFFF2_0022), (112, 8, 4)], OK),
     // values
-    ([Value(12), NONE], OK),
-    ([Value(13), NONE], BAD_SYMBOL),
-    ([Value(1 << 63), NONE], BAD_SYMBOL),
-    ([Value(13), Info(0x02)], BAD_SYMBOL),
-    ([Value(13), Index(SHN_ABS)], OK),
-    ([Value(13), Index(SHN_UNDEF)], OK),
-    ([Value(13), DROPPED], OK),
-    ([Value(12), DATA], OK),
-    ([Value(13), DATA], BAD_SYMBOL),
-    ([Value(3), NONE], OK),
+    ([(112, 8, 12), NONE], OK),
+    ([(112, 8, 13), NONE], BAD_SYMBOL),
+    ([(112, 8, 1 << 63), NONE], BAD_SYMBOL),
+    ([(112, 8, 13), (108, 1, 0x02)], BAD_SYMBOL),
+    ([(112, 8, 13), (110, 2, 0xFFF1)], OK),
+    ([(112, 8, 13), (110, 2, 0)], OK),
+    ([(112, 8, 13), DROPPED], OK),
+    ([(112, 8, 12), DATA], OK),
+    ([(112, 8, 13), DATA], BAD_SYMBOL),
+    ([(112, 8, 3), NONE], OK),
     // entry points: one
-    ([Other(0x20), NONE], OK),
-    ([Other(0x3F), Value(12)], OK),
+    ([(109, 1, 0x20), NONE], OK),
+    ([(109, 1, 0x3F), (112, 8, 12)], OK),
     // entry points: a global one, and a local one behind it
-    ([Other(0x40), NONE], OK),
-    ([Other(0x40), Value(4)], OK),
-    ([Other(0x40), Value(2)], BAD_SYMBOL),
-    ([Other(0x40), Value(8)], BAD_SYMBOL),
-    ([Other(0x60), NONE], OK),
-    ([Other(0x60), Value(4)], BAD_SYMBOL),
-    ([Other(0x80), NONE], BAD_SYMBOL),
-    ([Other(0x80), Size(20)], OK),
-    ([Other(0xA0), Size(32)], BAD_SYMBOL),
-    ([Other(0xA0), Size(36)], OK),
-    ([Other(0xC0), Size(64)], BAD_SYMBOL),
-    ([Other(0xC0), Size(68)], OK),
+    ([(109, 1, 0x40), NONE], OK),
+    ([(109, 1, 0x40), (112, 8, 4)], OK),
+    ([(109, 1, 0x40), (112, 8, 2)], BAD_SYMBOL),
+    ([(109, 1, 0x40), (112, 8, 8)], BAD_SYMBOL),
+    ([(109, 1, 0x60), NONE], OK),
+    ([(109, 1, 0x60), (112, 8, 4)], BAD_SYMBOL),
+    ([(109, 1, 0x80), NONE], BAD_SYMBOL),
+    ([(109, 1, 0x80), (272, 8, 20)], OK),
+    ([(109, 1, 0xA0), (272, 8, 32)], BAD_SYMBOL),
+    ([(109, 1, 0xA0), (272, 8, 36)], OK),
+    ([(109, 1, 0xC0), (272, 8, 64)], BAD_SYMBOL),
+    ([(109, 1, 0xC0), (272, 8, 68)], OK),
     // entry points that are reserved, and symbols of which they aren't read
-    ([Other(0xE0), Size(256)], BAD_SYMBOL),
-    ([Other(0xE0), DATA], OK),
-    ([Other(0xE0), DROPPED], OK),
-    ([Other(0xE0), Index(SHN_ABS)], OK),
+    ([(109, 1, 0xE0), (272, 8, 256)], BAD_SYMBOL),
+    ([(109, 1, 0xE0), DATA], OK),
+    ([(109, 1, 0xE0), DROPPED], OK),
+    ([(109, 1, 0xE0), (110, 2, 0xFFF1)], OK),
 ];
 
 #[test]
@@ -409,50 +328,22 @@ fn symbols_that_a_link_cannot_take_are_refused(rt: HostRuntime) -> Result<(), Fa
     Ok(())
 }
 
-/// A file with three symbols, of which the first lies past the end of its section and the last is of this type and binding.
-fn three_symbols(alloc: Global, last: u8) -> Result<FileBytes, Memory> {
-    let sections = [section_with(&[])];
-    let past = Symbol {
-        value: 13,
-        ..Symbol::START
-    };
-    let odd = Symbol {
-        info: last,
-        ..Symbol::START
-    };
-    let symbols = [past, odd];
-    let object = Object {
-        sections: &sections,
-        symbols: &symbols,
-        ..Object::EMPTY
-    };
-    named(alloc, &object)
-}
-
-/// A file that doesn't begin as an ELF file does.
-fn no_elf(alloc: Global) -> Result<FileBytes, Memory> {
-    let object = Object {
-        header: FileHeader {
-            magic: [0, 0x45, 0x4C, 0x46],
-            ..FileHeader::OBJECT
-        },
-        ..Object::EMPTY
-    };
-    named(alloc, &object)
-}
+/// The file has three symbols, and the value of symbol 1 is past the end of its section.
+const THREE_SYMBOLS: [Change; 3] = [(328, 8, 496), (336, 8, 72), (528, 8, 13)];
 
 #[test]
 fn the_first_refusal_is_the_one_that_is_said(rt: HostRuntime) -> Result<(), Fail> {
-    let file = [three_symbols(rt.alloc(), 0x12)?];
+    let [table, size, past] = THREE_SYMBOLS;
+    let file = [small_with(rt.alloc(), &THREE_SYMBOLS)?];
     assert_eq!(rt; refused(rt.alloc(), &file), BAD_SYMBOL);
     // what symbol 2 says by itself comes before where symbol 1 lies
-    let file = [three_symbols(rt.alloc(), 0x16)?];
+    let file = [small_with(rt.alloc(), &[table, size, past, (548, 1, 0x16)])?];
     assert_eq!(rt;
         refused(rt.alloc(), &file),
         Some((Why::Tls, 0, Place::Symbol(2)))
     );
     let small = small_with(rt.alloc(), &[])?;
-    let late = small_with(rt.alloc(), &[Type(SHT_REL)])?;
+    let late = small_with(rt.alloc(), &[(244, 4, 9)])?;
     let files = [small, late];
     assert_eq!(rt;
         refused(rt.alloc(), &files),
@@ -461,8 +352,8 @@ fn the_first_refusal_is_the_one_that_is_said(rt: HostRuntime) -> Result<(), Fail
     // a fault of the second file comes before what the third one asks for
     let files = [
         small_with(rt.alloc(), &[])?,
-        no_elf(rt.alloc())?,
-        small_with(rt.alloc(), &[Type(SHT_REL)])?,
+        small_with(rt.alloc(), &[(0, 1, 0)])?,
+        small_with(rt.alloc(), &[(244, 4, 9)])?,
     ];
     assert!(rt; matches!(ObjectSet::take(rt.alloc(), &files), Err(Refusal::NotElf(1))));
     Ok(())
@@ -471,14 +362,14 @@ fn the_first_refusal_is_the_one_that_is_said(rt: HostRuntime) -> Result<(), Fail
 /// Numbers in the small file, the sort of section 1 and its alignment.
 const SORTS: [([Change; 2], Sort, u64); 10] = [
     ([NONE, NONE], Sort::Text, 4),
-    ([Align(1), NONE], Sort::Text, 4),
-    ([Align(64), NONE], Sort::Text, 64),
-    ([Type(SHT_NOBITS), DATA], Sort::Zeroed, 4),
-    ([Type(SHT_NOBITS), Flags(SHF_ALLOC)], Sort::Zeroed, 4),
+    ([(288, 8, 1), NONE], Sort::Text, 4),
+    ([(288, 8, 64), NONE], Sort::Text, 64),
+    ([(244, 4, 8), DATA], Sort::Zeroed, 4),
+    ([(244, 4, 8), (248, 8, 2)], Sort::Zeroed, 4),
     ([TOC, DATA], Sort::Toc, 4),
-    ([TOC, Flags(SHF_ALLOC)], Sort::Toc, 4),
-    ([Align(0), DATA], Sort::Writable, 1),
-    ([Type(SHT_INIT_ARRAY), Flags(SHF_ALLOC)], Sort::ReadOnly, 4),
+    ([TOC, (248, 8, 2)], Sort::Toc, 4),
+    ([(288, 8, 0), DATA], Sort::Writable, 1),
+    ([(244, 4, 14), (248, 8, 2)], Sort::ReadOnly, 4),
     ([TOC, DROPPED], Sort::Dropped, 4),
 ];
 
@@ -498,79 +389,18 @@ fn sections_are_of_the_first_sort_that_fits(rt: HostRuntime) -> Result<(), Fail>
 }
 
 #[test]
-fn many_files_are_taken_and_walked(rt: HostRuntime) -> Result<(), Fail> {
+fn many_files_are_taken(rt: HostRuntime) -> Result<(), Fail> {
     let mut files = Vec::new(rt.alloc());
-    for _ in 0..4096 {
-        files.push(small_with(rt.alloc(), &[])?)?;
+    for k in 0..4096 {
+        files.push(small_with(rt.alloc(), &[(64, 4, k)])?)?;
     }
     assert_eq!(rt; files.len(), 4096);
     let set = ObjectSet::take(rt.alloc(), files.as_slice()).expect(&rt, "object files");
     assert_eq!(rt; set.file_count(), 4096);
-    let (mut sections, mut symbols) = (0u64, 0u64);
-    for section in set.sections() {
-        assert_eq!(rt;
-            (u64::from(section.file), u64::from(section.section)),
-            (sections / 5, sections % 5)
-        );
-        sections = sections.saturating_add(1);
-    }
-    for symbol in set.symbols() {
-        assert_eq!(rt;
-            (u64::from(symbol.file), u64::from(symbol.symbol)),
-            (symbols / 2, symbols % 2)
-        );
-        symbols = symbols.saturating_add(1);
-    }
-    assert_eq!(rt; (sections, symbols), (5 * 4096, 2 * 4096));
-    Ok(())
-}
-
-/// A file with two records of `.text` and one of `.data`, and no symbol but symbol 0.
-fn with_records(alloc: Global) -> Result<FileBytes, Memory> {
-    let record = Record {
-        offset: 4,
-        kind: 10,
-        symbol: 0,
-        addend: -8,
-    };
-    let records = [record, record];
-    let text = Section {
-        records: &records,
-        ..section_with(&[])
-    };
-    let data = Section {
-        records: &records[..1],
-        bytes: &[0; 8],
-        ..Section::DATA
-    };
-    let sections = [text, data];
-    let object = Object {
-        sections: &sections,
-        ..Object::EMPTY
-    };
-    named(alloc, &object)
-}
-
-#[test]
-fn records_come_by_file_and_table_and_position(rt: HostRuntime) -> Result<(), Fail> {
-    let files = [
-        with_records(rt.alloc())?,
-        small_with(rt.alloc(), &[])?,
-        with_records(rt.alloc())?,
-    ];
-    let set = ObjectSet::take(rt.alloc(), &files).expect(&rt, "object files");
-    let mut seen = Vec::new(rt.alloc());
-    for record in set.records() {
-        seen.push((record.file, record.table, record.entry, record.section))?;
-    }
-    let expected = [
-        (0, 3, 0, 1),
-        (0, 3, 1, 1),
-        (0, 4, 0, 2),
-        (2, 3, 0, 1),
-        (2, 3, 1, 1),
-        (2, 4, 0, 2),
-    ];
-    assert_eq!(rt; seen.as_slice(), expected.as_slice());
+    assert_eq!(rt; set.view(4095).section_count(), 5);
+    assert_eq!(rt;
+        set.view(4095).section(1).bytes,
+        b"\xff\x0f\x00\x00\x07\x00\x60\x38\x02\x00\x00\x44".as_slice()
+    );
     Ok(())
 }
