@@ -6,7 +6,8 @@ pub rest_whole : (at : ℕ) (bytes : List ℕ) → take (length bytes - at) (dro
 rest_whole at bytes = take_all (length bytes - at) (drop at bytes) (omega (arith, length-drop at bytes))
 
 append_next : (old mid new : Option (List ℕ)) (at count : ℕ) (bytes : List ℕ) →
-    Appends old mid (take at bytes) → Appends mid new (take count (drop at bytes)) → Appends old new (take (at + count) bytes)
+    Appends old mid (take at bytes) → Appends mid new (take count (drop at bytes)) →
+    Appends old new (take (at + count) bytes)
 append_next None mid new at count bytes before now = tt
 append_next (Some xs) None new at count bytes before now = absurd before
 append_next (Some xs) (Some ys) None at count bytes before now = absurd now
@@ -17,11 +18,16 @@ append_next (Some xs) (Some ys) (Some zs) at count bytes before now =
     ∙ ap (λ l. xs ++ l) (sym (take-add at count bytes))
 
 pub append_more : (old mid new : Option (List ℕ)) (at count : ℕ) (bytes : List ℕ) →
-    Appends old mid (take at bytes) → Appends mid new (take count (take (length bytes - at) (drop at bytes))) → Appends old new (take (at + count) bytes)
+    Appends old mid (take at bytes) → Appends mid new (take count (take (length bytes - at) (drop at bytes))) →
+    Appends old new (take (at + count) bytes)
 append_more old mid new at count bytes before now =
-    append_next old mid new at count bytes before (subst (λ l. Appends mid new (take count l)) (rest_whole at bytes) now)
+    append_next old mid new at count bytes before
+    (subst (λ l. Appends mid new (take count l)) (rest_whole at bytes) now)
 
-pub within_rest : (at count : ℕ) (bytes : List ℕ) → at ≤ length bytes → count ≤ length (take (length bytes - at) (drop at bytes)) → at + count ≤ length bytes
+pub within_rest : (at count : ℕ) (bytes : List ℕ) →
+    at ≤ length bytes →
+    count ≤ length (take (length bytes - at) (drop at bytes)) →
+    at + count ≤ length bytes
 within_rest at count bytes before now =
     let rest : count ≤ length (drop at bytes) = subst (λ l. count ≤ length l) (rest_whole at bytes) now in
     omega (arith, length-drop at bytes)

@@ -70,7 +70,8 @@ impl Console for MemConsole {
     fn put(&mut self, bytes: &[u8]) -> Result<(), OutsideError>
         ensures printed { Prints (text_state self.old) (text_state self.new) bytes.now result }
         ensures fails { (result ≡ Err OutsideError.Failed) ↔ IsMarkedPut self.old }
-        ensures raised { IsMarkedPut self.old → put_faults self.new ≡ next_count (put_faults self.old) }
+        ensures raised { IsMarkedPut self.old →
+            put_faults self.new ≡ next_count (put_faults self.old) }
         ensures failed_text { IsMarkedPut self.old → text_of self.new ≡ text_of self.old }
         ensures marks { put_marks self.new ≡ put_marks self.old }
         ensures calls { put_call self.new ≡ next_count (put_call self.old) }

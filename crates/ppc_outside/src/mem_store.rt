@@ -135,7 +135,8 @@ impl Store for MemStore {
     }
 
     fn replace(&mut self, name: &str, bytes: &[u8]) -> Result<(), OutsideError>
-        ensures store { Replaces (mem_state self.old) (mem_state self.new) name.now bytes.now result }
+        ensures store { Replaces
+            (mem_state self.old) (mem_state self.new) name.now bytes.now result }
         ensures fails { (result ≡ Err OutsideError.Failed) ↔ IsMarked self.old }
         ensures raised { IsMarked self.old →
             replace_faults self.new ≡ next_count (replace_faults self.old) }
