@@ -18,7 +18,7 @@ pub use places::{RecordId, SectionId, SymbolId};
 pub use refusal::{Refusal, Site};
 pub use set::{ObjectSet, refusal_of};
 pub use sort::Sort;
-pub use walk::{Records, Sections, Symbols};
+pub use walk::{RecordIds, SectionIds, SymbolIds};
 
 #[cfg(test)]
 mod tests;

@@ -1,7 +1,7 @@
 // A small object file, and what is said of it where a number or two are others.
 ghost use Rattle.std.specs.Prelude.{◌≤◌, length};
 
-use crate::{FileBytes, ObjectSet, Refusal, Sort};
+use crate::{FileBytes, ObjectSet, RecordId, Refusal, SectionId, Sort, SymbolId};
 use elf64_records::Place;
 use std::alloc::{AllocError, Global};
 use std::test::Fail;
@@ -402,5 +402,63 @@ fn many_files_are_taken(rt: HostRuntime) -> Result<(), Fail> {
         set.view(4095).section(1).bytes,
         b"\xff\x0f\x00\x00\x07\x00\x60\x38\x02\x00\x00\x44".as_slice()
     );
+    Ok(())
+}
+
+/// The file has a section more, which holds one relocation record of section 1.
+const WITH_RECORD: [Change; 8] = [
+    (60, 2, 6),
+    (500, 4, 4),
+    (520, 8, 64),
+    (528, 8, 24),
+    (536, 4, 2),
+    (540, 4, 1),
+    (544, 8, 8),
+    (552, 8, 24),
+];
+
+fn sections_passed(alloc: Global, set: &ObjectSet) -> Result<String, Fail> {
+    let mut text = String::new(alloc);
+    for SectionId { file, section } in set.sections() {
+        let place = format!(in alloc; "{file}:{section} ")?;
+        text.push_str(&place)?;
+    }
+    Ok(text)
+}
+
+fn symbols_passed(alloc: Global, set: &ObjectSet) -> Result<String, Fail> {
+    let mut text = String::new(alloc);
+    for SymbolId { file, symbol } in set.symbols() {
+        let place = format!(in alloc; "{file}:{symbol} ")?;
+        text.push_str(&place)?;
+    }
+    Ok(text)
+}
+
+fn records_passed(alloc: Global, set: &ObjectSet) -> Result<String, Fail> {
+    let mut text = String::new(alloc);
+    for RecordId {
+        file,
+        table,
+        entry,
+        section,
+    } in set.records() {
+        let place = format!(in alloc; "{file}:{table}:{entry} of {section} ")?;
+        text.push_str(&place)?;
+    }
+    Ok(text)
+}
+
+#[test]
+fn walks_pass_each_section_symbol_and_record_in_order(rt: HostRuntime) -> Result<(), Fail> {
+    let alloc = rt.alloc();
+    let files = [small_with(alloc, &[])?, small_with(alloc, &WITH_RECORD)?];
+    let set = ObjectSet::take(alloc, &files).expect(&rt, "object files");
+    assert_eq!(rt;
+        sections_passed(alloc, &set)?.as_str(),
+        "0:0 0:1 0:2 0:3 0:4 1:0 1:1 1:2 1:3 1:4 1:5 "
+    );
+    assert_eq!(rt; symbols_passed(alloc, &set)?.as_str(), "0:0 0:1 1:0 1:1 ");
+    assert_eq!(rt; records_passed(alloc, &set)?.as_str(), "1:5:0 of 1 ");
     Ok(())
 }

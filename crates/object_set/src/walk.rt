@@ -93,11 +93,11 @@ impl<'s, 'a> Cursor<'s, 'a> {
 
 /// The sections of a set that are left, section 0 of each file among them, as whose list contracts see it.
 #[derive(Drop)]
-pub struct Sections<'s, 'a> {
+pub struct SectionIds<'s, 'a> {
     cursor: Cursor<'s, 'a>,
 }
 
-impl<'s, 'a> Model for Sections<'s, 'a> {
+impl<'s, 'a> Model for SectionIds<'s, 'a> {
     ghost use Rattle.std.specs.Prelude.{List, map};
     ghost use Rattle.object_set.specs.declared.places.SectionId.{SectionId};
 
@@ -108,7 +108,7 @@ impl<'s, 'a> Model for Sections<'s, 'a> {
     ghost view = { λ s. map section_id s.cursor };
 }
 
-impl<'s, 'a> Iterator for Sections<'s, 'a> {
+impl<'s, 'a> Iterator for SectionIds<'s, 'a> {
     type Item = SectionId;
 
     ghost next_gives = { YieldsFirst (λ sections. sections) };
@@ -125,11 +125,11 @@ impl<'s, 'a> Iterator for Sections<'s, 'a> {
 
 /// The symbols of a set that are left, symbol 0 of each file among them, as whose list contracts see it.
 #[derive(Drop)]
-pub struct Symbols<'s, 'a> {
+pub struct SymbolIds<'s, 'a> {
     cursor: Cursor<'s, 'a>,
 }
 
-impl<'s, 'a> Model for Symbols<'s, 'a> {
+impl<'s, 'a> Model for SymbolIds<'s, 'a> {
     ghost use Rattle.std.specs.Prelude.{List, map};
     ghost use Rattle.object_set.specs.declared.places.SymbolId.{SymbolId};
 
@@ -140,7 +140,7 @@ impl<'s, 'a> Model for Symbols<'s, 'a> {
     ghost view = { λ s. map symbol_id s.cursor };
 }
 
-impl<'s, 'a> Iterator for Symbols<'s, 'a> {
+impl<'s, 'a> Iterator for SymbolIds<'s, 'a> {
     type Item = SymbolId;
 
     ghost next_gives = { YieldsFirst (λ symbols. symbols) };
@@ -157,16 +157,16 @@ impl<'s, 'a> Iterator for Symbols<'s, 'a> {
 
 /// The relocation records of kept sections that are left, as whose list contracts see them.
 #[derive(Drop)]
-pub struct Records<'s, 'a> {
+pub struct RecordIds<'s, 'a> {
     set: &'s ObjectSet<'a>,
-    sections: Sections<'s, 'a>,
+    sections: SectionIds<'s, 'a>,
     /// The next record, if its section has one left.
     next: RecordId,
     /// How many records that section holds.
     end: u32,
 }
 
-impl<'s, 'a> Model for Records<'s, 'a> {
+impl<'s, 'a> Model for RecordIds<'s, 'a> {
     ghost use Rattle.std.specs.Prelude.{List};
     ghost use Rattle.object_set.specs.declared.places.RecordId.{RecordId};
 
@@ -179,7 +179,7 @@ impl<'s, 'a> Model for Records<'s, 'a> {
     ghost invariant = { λ r. AreWithin r.set.now r.next r.end r.sections };
 }
 
-impl<'s, 'a> Records<'s, 'a> {
+impl<'s, 'a> RecordIds<'s, 'a> {
     /// The next record, which the walk passes.
     fn advance(&mut self) -> Option<RecordId>
         ensures { YieldsFirst (λ records. records) self.old result self.new }
@@ -205,7 +205,7 @@ impl<'s, 'a> Records<'s, 'a> {
     }
 }
 
-impl<'s, 'a> Iterator for Records<'s, 'a> {
+impl<'s, 'a> Iterator for RecordIds<'s, 'a> {
     type Item = RecordId;
 
     ghost next_gives = { YieldsFirst (λ records. records) };
@@ -219,28 +219,28 @@ impl<'s, 'a> Iterator for Records<'s, 'a> {
 
 impl<'a> ObjectSet<'a> {
     /// All sections in order of file and number, section 0 of each file among them.
-    pub fn sections<'s>(&'s self) -> Sections<'s, 'a>
+    pub fn sections<'s>(&'s self) -> SectionIds<'s, 'a>
         ensures { result ≡ all_items section_walk self.entry.now }
     {
-        Sections {
+        SectionIds {
             cursor: Cursor::new(self, Numbers::Sections),
         }
     }
 
     /// All symbols in order of file and number, symbol 0 of each file among them.
-    pub fn symbols<'s>(&'s self) -> Symbols<'s, 'a>
+    pub fn symbols<'s>(&'s self) -> SymbolIds<'s, 'a>
         ensures { result ≡ all_items symbol_walk self.entry.now }
     {
-        Symbols {
+        SymbolIds {
             cursor: Cursor::new(self, Numbers::Symbols),
         }
     }
 
     /// The relocation records of kept sections in record order: by file, by the section that holds them, by position.
-    pub fn records<'s>(&'s self) -> Records<'s, 'a>
+    pub fn records<'s>(&'s self) -> RecordIds<'s, 'a>
         ensures { result ≡ all_items record_walk self.entry.now }
     {
-        Records {
+        RecordIds {
             set: self,
             sections: self.sections(),
             next: RecordId {

@@ -1,6 +1,6 @@
 use Rattle.std.proofs.Common.{◌≡◌, length}
 use Rattle.object_set.specs.inside.Records.{all_records_left, AreWithin}
-use Rattle.object_set.proofs.walk.Records.advance.Given as goal
+use Rattle.object_set.proofs.walk.RecordIds.advance.Given as goal
 
 -- as much is left as at first
 abbrev pub invariant-loop-self : goal.invariant-loop-self

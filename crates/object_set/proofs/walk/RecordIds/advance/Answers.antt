@@ -10,7 +10,7 @@ use Rattle.object_set.specs.Walks.{IsSection}
 use Rattle.object_set.specs.laws.Walks.{first_of, rest_of}
 use Rattle.object_set.specs.inside.Records.{all_records_left}
 use Rattle.object_set.proofs.RecordsLeft.{records_none, records_next, records_step}
-use Rattle.object_set.proofs.walk.Records.advance.Goals as goal
+use Rattle.object_set.proofs.walk.RecordIds.advance.Goals as goal
 
 pub loop-self-init : goal.loop-self-init
 loop-self-init c = record { left = c.self.view_is; within = c.self.invariant }
@@ -18,7 +18,8 @@ loop-self-init c = record { left = c.self.view_is; within = c.self.invariant }
 pub view-view-requires : goal.view-view-requires
 view-view-requires c =
     let s = c.loop-self.self-inside in
-    (first_of (IsSection s.set.now) s.sections c.next.new.self c.in-Some.field-0 c.loop-self.invariant.within.each c.in-Some.ensures.steps).file_in
+    (first_of (IsSection s.set.now) s.sections c.next.new.self c.in-Some.field-0 c.loop-self.invariant.within.each
+    c.in-Some.ensures.steps).file_in
 
 pub loop-self-smaller : goal.loop-self-smaller
 loop-self-smaller c = let step = ap length c.in-Some.ensures.steps in omega (arith, step)
@@ -26,13 +27,15 @@ loop-self-smaller c = let step = ap length c.in-Some.ensures.steps in omega (ari
 pub record_count-self-inside-requires : goal.record_count-self-inside-requires
 record_count-self-inside-requires c =
     let s = c.loop-self.self-inside in
-    let this = first_of (IsSection s.set.now) s.sections c.next.new.self c.in-Some.field-0 c.loop-self.invariant.within.each c.in-Some.ensures.steps in
+    let this = first_of (IsSection s.set.now) s.sections c.next.new.self c.in-Some.field-0
+    c.loop-self.invariant.within.each c.in-Some.ensures.steps in
     subst (λ (b : List ℕ). c.in-Some.field-0.section < e_shnum b) (sym c.view-view.ensures) this.within
 
 pub section_header-requires : goal.section_header-requires
 section_header-requires c =
     let s = c.loop-self.self-inside in
-    let this = first_of (IsSection s.set.now) s.sections c.next.new.self c.in-Some.field-0 c.loop-self.invariant.within.each c.in-Some.ensures.steps in
+    let this = first_of (IsSection s.set.now) s.sections c.next.new.self c.in-Some.field-0
+    c.loop-self.invariant.within.each c.in-Some.ensures.steps in
     subst (λ (b : List ℕ). c.in-Some.field-0.section < e_shnum b) (sym c.view-view.ensures) this.within
 
 pub loop-self-preserved : goal.loop-self-preserved
@@ -40,13 +43,15 @@ loop-self-preserved c =
     let s = c.loop-self.self-inside in
     let at = c.in-Some.field-0 in
     let steps = c.in-Some.ensures.steps in
-    let count = c.record_count-self-inside.ensures ∙ ap (λ (b : List ℕ). record_count b at.section) c.view-view.ensures in
+    let count = c.record_count-self-inside.ensures ∙
+    ap (λ (b : List ℕ). record_count b at.section) c.view-view.ensures in
     let about = c.section_header.ensures.info ∙ ap (λ (b : List ℕ). sh_info b at.section) c.view-view.ensures in
     let info = c.section_header.result.info in
     let next : RecordId = record { file = at.file; table = at.section; entry = 0; section = info } in
     let left = records_next s.set.now s.next s.end info s.sections c.next.new.self at c.loop-self-test.true steps in
     record {
-      left = ap (λ (n : ℕ). all_records_left s.set.now next n c.next.new.self) count ∙ left ∙ c.loop-self.invariant.left;
+      left = ap (λ (n : ℕ). all_records_left s.set.now next n c.next.new.self) count ∙ left ∙
+          c.loop-self.invariant.left;
       within = record {
         entry_in = omega arith;
         end_fits = c.record_count-self-inside.type_inv;
