@@ -1,5 +1,6 @@
 // Files become an executable.
 ghost use Rattle.std.specs.Prelude.{◌≡◌, ◌⊎◌, ◌≤◌, ◌<◌, length, None, Ok, Err, IfOk, IfErr};
+ghost use Rattle.elf64_records.specs.declared.headers.TheConstants.{FILE_LIMIT};
 ghost use Rattle.object_set.specs.Files.{contents_of};
 ghost use Rattle.object_set.specs.Refusals.{Answers, set_refusal};
 ghost use Rattle.link_engine.specs.Stage.{not_built, text_of, IsEntered};
@@ -18,7 +19,7 @@ use symbol_table::{Resolved, resolve};
 /// The executable that loads a text and starts in it.
 fn image(alloc: Global, start: u64, text: &[u8]) -> Result<Vec<u8>, Memory>
     requires some { 0 < length text.now }
-    requires limit { length text.now ≤ 0x10000000 }
+    requires limit { length text.now ≤ FILE_LIMIT }
     requires below { start < length text.now }
     ensures { IfOk result (λ file. file.items ≡ image_at start text.now) }
 {
@@ -44,7 +45,7 @@ fn only_text<'a>(resolved: &Resolved<'a, '_>) -> &'a [u8]
     requires entered { IsEntered resolved.now.files resolved.now.entry }
     ensures text { result.now ≡ text_of resolved.now.files }
     ensures below { resolved.now.entry.offset < length result.now }
-    ensures limit { length result.now ≤ 0x10000000 }
+    ensures limit { length result.now ≤ FILE_LIMIT }
 {
     let (file, section) = resolved.text_of(resolved.entry().section);
     resolved.set().view(file).section(section).bytes

@@ -1,16 +1,22 @@
 // What a link takes and gives.
 use std::marker::Model;
 
+/// How far a branch of the instruction `b` reaches, in bytes either way: the usual branch span, and the largest.
+pub const BRANCH_SPAN: u32 = 0x200_0000;
+
+/// How large a TOC group may be that a 16-bit offset reaches whole: the usual TOC span in bytes, and the largest.
+pub const TOC_SPAN: u32 = 0x1_0000;
+
 /// How to link. Contracts see the entry's name as its bytes.
 #[derive(Debug, Drop)]
 pub struct Options {
     /// The name of the symbol at whose global entry the program starts.
     pub entry: String,
 
-    /// How far a branch reaches, in bytes either way: a multiple of 4 from 0x100 to 0x2000000.
+    /// How far a branch reaches, in bytes either way: a multiple of 4 from 0x100 to `BRANCH_SPAN`.
     pub branch_span: u32,
 
-    /// How large a TOC group may grow, in bytes: a multiple of 8 from 16 to 0x10000.
+    /// How large a TOC group may grow, in bytes: a multiple of 8 from 16 to `TOC_SPAN`.
     pub toc_span: u32,
 }
 

@@ -8,7 +8,7 @@ mod laws;
 mod stage;
 
 pub use engine::link;
-pub use files::{Linked, Options};
+pub use files::{BRANCH_SPAN, Linked, Options, TOC_SPAN};
 pub use laws::links_are_one;
 pub use object_set::{FileBytes, Refusal, Site};
 pub use ppc_bytes::Steps;

@@ -1,7 +1,7 @@
 // Links of one and of two small objects.
 ghost use Rattle.std.specs.Prelude.{◌≡◌, ◌<◌};
 
-use crate::{FileBytes, Linked, Options, Refusal, Steps, link};
+use crate::{BRANCH_SPAN, FileBytes, Linked, Options, Refusal, Steps, TOC_SPAN, link};
 use elf64_exec::{IMAGE_START, PAGE, read_exec};
 use object_builder::{FileHeader, Object, Record, Section, Symbol};
 use ppc_bytes::Memory;
@@ -152,8 +152,8 @@ fn link_with<L: Ledger>(
     }
     let options = Options {
         entry: String::from_str(alloc, job.entry)?,
-        branch_span: 0x200_0000,
-        toc_span: 0x1_0000,
+        branch_span: BRANCH_SPAN,
+        toc_span: TOC_SPAN,
     };
     let mut steps = Steps::<L>::new(blank);
     Ok(link(alloc, &files, &options, &mut steps))

@@ -3,6 +3,7 @@ use Rattle.std.specs.Prelude.{ℕ, Bool, nat_le, false, ◌==◌, ◌&&◌, not,
 use Rattle.std.specs.List.{list_all}
 use Rattle.std.specs.Str.{bytes_eq}
 use Rattle.std.specs.declared.alloc.Global.{Global}
+use Rattle.link_engine.specs.declared.files.TheConstants.{BRANCH_SPAN, TOC_SPAN}
 use Rattle.link_engine.specs.Options.{LinkOptions}
 use Rattle.ppclink.specs.Numbers.{number_of}
 
@@ -36,7 +37,7 @@ are_files files = nat_le 1 (length files) && nat_le (length files) 4096 && list_
 
 -- the options of a link that names no spans
 abbrev pub usual_options : List ℕ → LinkOptions
-usual_options entry = record { entry = entry; branch_span = 0x2000000; toc_span = 0x10000 }
+usual_options entry = record { entry = entry; branch_span = BRANCH_SPAN; toc_span = TOC_SPAN }
 
 -- the files of a link, behind its options
 abbrev pub link_from : List ℕ → LinkOptions → List (List ℕ) → Option Request

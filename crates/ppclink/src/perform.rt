@@ -15,7 +15,7 @@ use crate::running::perform_run;
 use crate::show::shown;
 use crate::words::{Command, LinkOptions, parse};
 use elf64_records::{FILE_LIMIT, ObjectView};
-use link_engine::{FileBytes, Options, Refusal, Steps, link};
+use link_engine::{BRANCH_SPAN, FileBytes, Options, Refusal, Steps, TOC_SPAN, link};
 use object_set::refusal_of;
 use ppc_bytes::Memory;
 use ppc_outside::{OutsideError, Store};
@@ -41,8 +41,8 @@ fn options_of(alloc: Global, options: LinkOptions<'_>) -> Result<Options, Memory
 {
     Ok(Options {
         entry: String::from_str(alloc, options.entry)?,
-        branch_span: 0x200_0000,
-        toc_span: 0x1_0000,
+        branch_span: BRANCH_SPAN,
+        toc_span: TOC_SPAN,
     })
 }
 

@@ -1,5 +1,6 @@
 -- What was fetched, and why a fetch failed.
 use Rattle.std.specs.Prelude.{ℕ, ◌≡◌, ◌<◌, ◌+◌, List, [], ◌∷◌, take, length, Option, slice_index_or}
+use Rattle.elf64_records.specs.declared.headers.TheConstants.{FILE_LIMIT}
 use Rattle.ppc_outside.specs.Outside.{Files, StoreState, Holds, FetchFails}
 use Rattle.ppc_outside.specs.declared.outside.OutsideError.{OutsideError}
 use Rattle.ppc_outside.specs.declared.outside.OutsideError.TheVariants as outside
@@ -9,7 +10,7 @@ use Rattle.ppclink.specs.Statuses.{IsUnread}
 
 -- the most bytes that an object file may have
 abbrev pub file_limit : ℕ
-file_limit = 0x10000000
+file_limit = FILE_LIMIT
 
 -- the bytes are the first of the named file; one byte past the limit was asked for
 pub record HasRead (told : Option Files) (limit : ℕ) (name bytes : List ℕ) : Type 0 where
