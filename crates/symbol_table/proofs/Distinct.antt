@@ -7,12 +7,14 @@ use Rattle.std.specs.Str.{bytes_eq}
 use Rattle.std.proofs.lemmas.Slice.Eq.{bytes_eq-Decides}
 use Rattle.std.proofs.lemmas.Option.{slice_get_within}
 use Rattle.symbol_table.specs.Externals.{with_name}
-use Rattle.symbol_table.proofs.Keys.{same_bytes}
 
 -- each name stands once
 pub data IsOnce : List (List ℕ) → Type 0 where
   Empty : IsOnce []
   More : (name : List ℕ) (names : List (List ℕ)) → list_any (bytes_eq name) names ≡ false → IsOnce names → IsOnce (name ∷ names)
+
+pub same_bytes : (a b : List ℕ) → bytes_eq a b ≡ true → a ≡ b
+same_bytes a b same = (bytes_eq-Decides a b).0 same
 
 pub bytes_same : (a : List ℕ) → bytes_eq a a ≡ true
 bytes_same a = (bytes_eq-Decides a a).1 refl

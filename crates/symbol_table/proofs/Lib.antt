@@ -1,5 +1,5 @@
-pub mod Keys
 pub mod Distinct
+pub mod NameIndex
 pub mod Steps
 pub mod NameTables
 pub mod Numbers

@@ -2,16 +2,26 @@
 use Rattle.std.proofs.Common.{◌≡◌, ◌<◌, ℕ, ◌+◌, zero, suc, Bool, true, false, if◌then◌else◌, List, [], ◌∷◌, ◌++◌, Some, slice_get, sym}
 use Rattle.std.proofs.Common.{ap, ◌∙◌, add-one, subst}
 use Rattle.std.specs.List.{slice_index_or}
+use Rattle.std.proofs.Common.{cond, refl}
 use Rattle.std.proofs.lemmas.List.{append_assoc}
+use Rattle.std.proofs.lemmas.Map.Lookups.{exact_unsigned}
+use Rattle.std.specs.BTreeMap.{BTreeMap, get, Updates}
+use Rattle.std.specs.declared.cmp.Ordering.{Ordering}
+use Rattle.std.specs.declared.cmp.Ordering.TheVariants.{Less, Equal, Greater}
+use Rattle.std.specs.Ordering.{is_eq, nat_cmp}
+use Rattle.elf64_records.specs.Names.{name_at}
+use Rattle.symbol_table.specs.Candidates.{NamesSeen, no_candidates}
+use Rattle.symbol_table.proofs.Distinct.{here}
+use Rattle.symbol_table.proofs.Steps.{nil_right}
 use Rattle.std.specs.List.{list_any}
 use Rattle.std.specs.Str.{bytes_eq}
 use Rattle.object_set.specs.Symbols.{is_local}
 use Rattle.symbol_table.specs.Externals.{External, external_symbol, external_walk, external_at, with_name}
-use Rattle.symbol_table.specs.inside.Names.{KeepsNumbers, HasNumber, AreNameNumbers, AreFileNumbers, AreAllNameNumbers}
+use Rattle.symbol_table.specs.inside.Names.{KeepsNumbers, HasNumber, IsNumbered, AreNamePlaces, AreNameNumbers, AreFileNumbers, AreAllNameNumbers}
 use Rattle.object_set.specs.Files.{file_at}
 use Rattle.object_set.specs.Walks.{items_in}
 use Rattle.object_set.specs.laws.Rows.{row_more, row_weaker, rows_more, rows_weaker}
-use Rattle.elf64_records.specs.Symbols.{symbol_count}
+use Rattle.elf64_records.specs.Symbols.{symbol_count, symbol_names}
 
 -- a number stays where names keep theirs
 pub number_kept : (old new : List (List ℕ)) (b : List ℕ) (j k : ℕ) → KeepsNumbers old new → HasNumber old b j k → HasNumber new b j k
@@ -68,3 +78,36 @@ pub one_external : (file : ℕ) (b : List ℕ) (j : ℕ) (s : External) → is_l
 one_external file b j s external is =
     ap (λ (t : External). t ∷ []) is
     ∙ sym (ap (λ (l : Bool). if l then [] else external_symbol file b j ∷ []) external)
+
+-- a name that has a number comes to others
+pub numbered_known : (now : NamesSeen) (name : List ℕ) (k : ℕ) → slice_get now.names k ≡ Some name → IsNumbered now now name k
+numbered_known now name k found =
+    let known = here name now.names k found in
+    record {
+      names = sym (ap (λ (b : Bool). if b then now.names else now.names ++ name ∷ []) known);
+      candidates = sym (nil_right now.candidates)
+          ∙ ap (λ (b : Bool). now.candidates ++ (if b then [] else no_candidates ∷ [])) (sym known);
+      number = found;
+    }
+
+-- places stay known where names keep their numbers
+pub places_kept : (old new : List (List ℕ)) (b : List ℕ) (places : BTreeMap ℕ ℕ) → AreNamePlaces old b places → KeepsNumbers old new →
+    AreNamePlaces new b places
+places_kept old new b places are keeps = λ place k gives. keeps k (name_at (symbol_names b) place) (are place k gives)
+
+place_case : (old new : List (List ℕ)) (b : List ℕ) (places : BTreeMap ℕ ℕ) (place k q n : ℕ) (o : Ordering) → nat_cmp place q ≡ o →
+    AreNamePlaces old b places → KeepsNumbers old new → slice_get new k ≡ Some (name_at (symbol_names b) place) →
+    Some n ≡ cond (is_eq o) (Some k) (get nat_cmp places q) → slice_get new n ≡ Some (name_at (symbol_names b) q)
+place_case old new b places place k q n Less is are keeps found gives = places_kept old new b places are keeps q n (sym gives)
+place_case old new b places place k q n Equal is are keeps found gives =
+    let here_it_is : place ≡ q = exact_unsigned place q is in
+    let same : n ≡ k = cc in
+    ap (λ (m : ℕ). slice_get new m) same ∙ found ∙ ap (λ (m : ℕ). Some (name_at (symbol_names b) m)) here_it_is
+place_case old new b places place k q n Greater is are keeps found gives = places_kept old new b places are keeps q n (sym gives)
+
+-- one place more is known
+pub places_more : (old new : List (List ℕ)) (b : List ℕ) (places places' : BTreeMap ℕ ℕ) (place k : ℕ) → AreNamePlaces old b places →
+    KeepsNumbers old new → slice_get new k ≡ Some (name_at (symbol_names b) place) → Updates nat_cmp places places' place (Some k) →
+    AreNamePlaces new b places'
+places_more old new b places places' place k are keeps found updates = λ q n gives.
+    place_case old new b places place k q n (nat_cmp place q) refl are keeps found (sym gives ∙ updates.0 q)

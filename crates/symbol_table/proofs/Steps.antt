@@ -7,7 +7,7 @@ use Rattle.std.specs.Option.{option_map}
 use Rattle.std.proofs.lemmas.List.Elements.{filter-append}
 use Rattle.std.proofs.lemmas.List.Sums.{fold-append}
 use Rattle.std.proofs.Common.{◌||◌, fold}
-use Rattle.symbol_table.proofs.Keys.{same_bytes}
+use Rattle.symbol_table.proofs.Distinct.{same_bytes}
 use Rattle.symbol_table.proofs.Distinct.{IsOnce, Empty, once_with_name, absent, or_false}
 use Rattle.symbol_table.specs.declared.role.Role.{Role}
 use Rattle.symbol_table.specs.declared.role.Role.TheVariants as role

@@ -1,5 +1,6 @@
 -- Words of private contracts.
 pub mod Keys
+pub mod NameIndex
 pub mod Names
 pub mod Commons
 pub mod Text

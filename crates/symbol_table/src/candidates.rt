@@ -1,5 +1,5 @@
 // What symbols say of a name, and what the name stands for.
-ghost use Rattle.std.specs.Prelude.{◌≡◌};
+ghost use Rattle.std.specs.Prelude.{◌≡◌, ℕ, List};
 ghost use Rattle.symbol_table.specs.Candidates.{resolution_of, definition_in, no_candidates};
 ghost use Rattle.symbol_table.specs.inside.Names.{larger_common, with_candidate, external_of};
 
@@ -79,7 +79,8 @@ impl Candidates {
 
     /// What is said with one symbol more.
     pub fn with(self, symbol: ExternalSymbol) -> Candidates
-        ensures { result ≡ with_candidate self symbol.entry.role (external_of symbol.entry) }
+        ensures { (name : List ℕ) →
+            result ≡ with_candidate self symbol.role (external_of name symbol) }
     {
         let id = SymbolId {
             file: symbol.file,

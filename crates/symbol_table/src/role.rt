@@ -21,11 +21,9 @@ pub enum Role {
     Reference,
 }
 
-/// A symbol that other files see.
+/// A symbol that other files see, but for its name.
 #[derive(Clone, Copy)]
-pub struct ExternalSymbol<'a> {
-    /// Its name.
-    pub name: &'a [u8],
+pub struct ExternalSymbol {
     /// What it does for the name.
     pub role: Role,
     /// Its file.

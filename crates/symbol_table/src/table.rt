@@ -1,21 +1,21 @@
 // What the symbols of a set of files say of each name.
-ghost use Rattle.std.specs.Prelude.{false, ◌<◌, ◌≡◌, List, ◌∷◌, [], ◌++◌, Some, None, IfOk, OnOk, length, slice_get, slice_index};
-ghost use Rattle.elf64_records.specs.Symbols.{symbol_count};
+ghost use Rattle.std.specs.Prelude.{false, ◌<◌, ◌≡◌, ℕ, List, ◌∷◌, [], ◌++◌, Some, None, IfOk, OnOk, length, slice_get, slice_index};
+ghost use Rattle.elf64_records.specs.Symbols.{symbol_count, symbol_of};
 ghost use Rattle.object_set.specs.Files.{file_at};
 ghost use Rattle.object_set.specs.Refusals.{set_refusal, Answers};
 ghost use Rattle.object_set.specs.Symbols.{is_local};
 ghost use Rattle.symbol_table.specs.Externals.{External, external_symbol, external_at, external_walk, external_symbols, names_of};
-ghost use Rattle.symbol_table.specs.Externals.{with_name};
 ghost use Rattle.object_set.specs.Walks.{items_in};
-ghost use Rattle.symbol_table.specs.Candidates.{names_seen, candidates_of, duplicate_at, first_duplicate};
+ghost use Rattle.symbol_table.specs.Candidates.{NamesSeen, names_seen, candidates_of, duplicate_at, first_duplicate};
 ghost use Rattle.symbol_table.specs.inside.Names.{IsPaired, SeesMore, HasNumber, KeepsNumbers, AreFileNumbers, AreAllNameNumbers};
-ghost use Rattle.symbol_table.specs.inside.Names.{candidates_of_new, external_of};
+ghost use Rattle.symbol_table.specs.inside.Names.{IsNumbered, AreNamePlaces, NotesPlace, external_of};
 
 use crate::candidates::Candidates;
 use crate::names::{NameIndex, owned};
 use crate::role::{ExternalSymbol, role_of};
 use object_set::{ObjectSet, Refusal};
 use std::alloc::{AllocError, Global};
+use std::collections::BTreeMap;
 use std::marker::Model;
 
 /// Names in the order in which they are first seen, and what is said of each.
@@ -34,14 +34,14 @@ impl<'a> Model for NameTable<'a> {
 }
 
 impl<'a> NameTable<'a> {
-    /// No names.
-    pub fn new(alloc: Global) -> Self
-        ensures { result ≡ names_seen [] }
+    /// No names, and room for about so many.
+    pub fn with_room(alloc: Global, names: usize) -> Result<Self, AllocError>
+        ensures { IfOk result (λ table. table ≡ names_seen []) }
     {
-        NameTable {
-            names: NameIndex::new(alloc),
+        Ok(NameTable {
+            names: NameIndex::with_room(alloc, names)?,
             candidates: Vec::new(alloc),
-        }
+        })
     }
 
     /// What is said of a name.
@@ -99,10 +99,7 @@ impl<'a> NameTable<'a> {
     /// The number of a name, of which nothing is said where it is new.
     fn add_name(&mut self, name: &'a [u8]) -> Result<usize, AllocError>
         requires { IsPaired self.old }
-        ensures names { OnOk result (self.new.names ≡ with_name self.old.names name.now) }
-        ensures candidates { OnOk result (self.new.candidates
-            ≡ self.old.candidates ++ candidates_of_new self.old.names name.now) }
-        ensures number { IfOk result (λ k. slice_get self.new.names k ≡ Some name.now) }
+        ensures named { IfOk result (IsNumbered self.old self.new name.now) }
         ensures paired { OnOk result (IsPaired self.new) }
     {
         let number = self.names.add(name)?;
@@ -112,20 +109,18 @@ impl<'a> NameTable<'a> {
         Ok(number)
     }
 
-    /// Takes in a symbol, and gives the number of its name.
-    fn add_symbol(&mut self, symbol: ExternalSymbol<'a>) -> Result<usize, AllocError>
-        requires { IsPaired self.old }
-        ensures seen { OnOk result (SeesMore self.old self.new (external_of symbol.entry ∷ [])) }
-        ensures names { OnOk result (
-            self.new.names ≡ with_name self.old.names symbol.entry.name.now) }
-        ensures number { IfOk result (λ k.
-            slice_get self.new.names k ≡ Some symbol.entry.name.now) }
-        ensures paired { OnOk result (IsPaired self.new) }
+    /// Takes in what a symbol says of the name with this number.
+    fn add_symbol(&mut self, number: usize, symbol: ExternalSymbol)
+        requires paired { IsPaired self.old }
+        requires within { number < length self.old.names }
+        ensures seen { (old : NamesSeen) (name : List ℕ) →
+            IsNumbered old self.old name number →
+            SeesMore old self.new (external_of name symbol ∷ []) }
+        ensures names { self.new.names ≡ self.old.names }
+        ensures paired { IsPaired self.new }
     {
-        let number = self.add_name(symbol.name)?;
         let candidates = self.candidates[number].with(symbol);
         self.candidates[number] = candidates;
-        Ok(number)
     }
 }
 
@@ -153,16 +148,16 @@ impl NameNumbers {
     }
 }
 
-/// Symbol `j` of a file, which other files see.
-fn external_symbol<'a>(set: &ObjectSet<'a>, file: u32, j: u32) -> ExternalSymbol<'a>
+/// Symbol `j` of a file, which other files see, but for its name.
+fn external_symbol(set: &ObjectSet, file: u32, j: u32) -> ExternalSymbol
     requires file { file < length set.now }
     requires within { j < symbol_count (file_at set.now file) }
     requires external { is_local (file_at set.now file) j ≡ false }
-    ensures { external_of result ≡ external_symbol file (file_at set.now file) j }
+    ensures { let b = file_at set.now file in
+        external_of (symbol_of b j).name result ≡ external_symbol file b j }
 {
-    let symbol = set.view(file).symbol(j);
+    let symbol = set.view(file).symbol_entry(j);
     ExternalSymbol {
-        name: symbol.name,
         role: role_of(set, file, j),
         file,
         number: j,
@@ -171,9 +166,28 @@ fn external_symbol<'a>(set: &ObjectSet<'a>, file: u32, j: u32) -> ExternalSymbol
     }
 }
 
-/// Takes in symbol `j` of a file, where other files see it, and gives the number of its name.
-fn read_symbol<'a>(
+/// How long a name is that is worth remembering by its place: a shorter one is as soon read again.
+const LONG_NAME: usize = 64;
+
+/// Remembers the number of the name that begins at a place, where the name is long.
+fn note_place(
+    places: &mut BTreeMap<usize, usize>,
+    place: usize,
+    number: usize,
+    length: usize,
+) -> Result<(), AllocError>
+    ensures { OnOk result (NotesPlace places.old places.new place number) }
+{
+    if length >= LONG_NAME {
+        places.insert(place, number)?;
+    }
+    Ok(())
+}
+
+/// The number of the name of symbol `j` of a file. Names that begin at one place are read once.
+fn read_name<'a>(
     table: &mut NameTable<'a>,
+    places: &mut BTreeMap<usize, usize>,
     set: &ObjectSet<'a>,
     file: u32,
     j: u32,
@@ -181,16 +195,50 @@ fn read_symbol<'a>(
     requires paired { IsPaired table.old }
     requires file { file < length set.now }
     requires within { j < symbol_count (file_at set.now file) }
+    requires places { AreNamePlaces table.old.names (file_at set.now file) places.old }
+    ensures named { IfOk result (
+        IsNumbered table.old table.new (symbol_of (file_at set.now file) j).name) }
+    ensures paired { OnOk result (IsPaired table.new) }
+    ensures places { OnOk result (
+        AreNamePlaces table.new.names (file_at set.now file) places.new) }
+{
+    let view = set.view(file);
+    let place = view.symbol_name_place(j);
+    if let Some(number) = places.get(&place) {
+        return Ok(*number);
+    }
+    let name = view.symbol(j).name;
+    let number = table.add_name(name)?;
+    note_place(places, place, number, name.len())?;
+    Ok(number)
+}
+
+/// Takes in symbol `j` of a file, where other files see it, and gives the number of its name.
+fn read_symbol<'a>(
+    table: &mut NameTable<'a>,
+    places: &mut BTreeMap<usize, usize>,
+    set: &ObjectSet<'a>,
+    file: u32,
+    j: u32,
+) -> Result<usize, AllocError>
+    requires paired { IsPaired table.old }
+    requires file { file < length set.now }
+    requires within { j < symbol_count (file_at set.now file) }
+    requires places { AreNamePlaces table.old.names (file_at set.now file) places.old }
     ensures seen { OnOk result (
         SeesMore table.old table.new (external_at file (file_at set.now file) j)) }
     ensures keeps { OnOk result (KeepsNumbers table.old.names table.new.names) }
     ensures number { IfOk result (HasNumber table.new.names (file_at set.now file) j) }
     ensures paired { OnOk result (IsPaired table.new) }
+    ensures places { OnOk result (
+        AreNamePlaces table.new.names (file_at set.now file) places.new) }
 {
     if set.is_local(file, j) {
         return Ok(0);
     }
-    table.add_symbol(external_symbol(set, file, j))
+    let number = read_name(table, places, set, file, j)?;
+    table.add_symbol(number, external_symbol(set, file, j));
+    Ok(number)
 }
 
 /// Takes in the symbols of a file, and gives the numbers of their names.
@@ -209,11 +257,21 @@ fn read_file<'a>(
     ensures paired { OnOk result (IsPaired table.new) }
 {
     let mut items = Vec::new(alloc);
+    let mut places = BTreeMap::new(alloc);
     for j in 0..set.view(file).symbol_count() {
-        let number = read_symbol(table, set, file, j)?;
+        let number = read_symbol(table, &mut places, set, file, j)?;
         items.push(number)?;
     }
     Ok(NameNumbers { items })
+}
+
+/// How many symbols the files have: not fewer than names.
+fn symbol_total(set: &ObjectSet) -> usize {
+    let mut total = 0usize;
+    for file in 0..set.file_count() {
+        total = total.saturating_add(set.view(file).symbol_count() as usize);
+    }
+    total
 }
 
 /// What the symbols of all files say of their names, and for each file the numbers of these.
@@ -226,7 +284,7 @@ pub fn name_table<'a>(
         (names_of (external_symbols set.now)) set.now (length set.now) numbers.items) }
     ensures whole { OnOk result (set_refusal set.now ≡ None) }
 {
-    let mut table = NameTable::new(alloc);
+    let mut table = NameTable::with_room(alloc, symbol_total(set))?;
     let mut numbers = Vec::new(alloc);
     for file in 0..set.file_count() {
         let row = read_file(alloc, &mut table, set, file)?;

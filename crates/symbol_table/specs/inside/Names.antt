@@ -3,7 +3,10 @@ use Rattle.std.specs.Prelude.{◌≡◌, ℕ, false, max, List, [], ◌∷◌, �
 use Rattle.std.specs.List.{list_any}
 use Rattle.std.specs.Str.{bytes_eq}
 use Rattle.elf64_records.specs.First.{◌orelse◌}
-use Rattle.elf64_records.specs.Symbols.{symbol_count}
+use Rattle.std.specs.BTreeMap.{BTreeMap, get}
+use Rattle.std.specs.Ordering.{nat_cmp}
+use Rattle.elf64_records.specs.Names.{name_at}
+use Rattle.elf64_records.specs.Symbols.{symbol_count, symbol_names}
 use Rattle.object_set.specs.Files.{file_at}
 use Rattle.object_set.specs.Symbols.{name_of, is_local}
 use Rattle.symbol_table.specs.declared.candidates.CommonSize.{CommonSize}
@@ -11,13 +14,13 @@ use Rattle.symbol_table.specs.declared.role.Role.{Role}
 use Rattle.symbol_table.specs.declared.role.Role.TheVariants as role
 use Rattle.symbol_table.specs.declared.role.ExternalSymbol.{ExternalSymbol}
 use Rattle.symbol_table.specs.declared.candidates.Candidates.{Candidates}
-use Rattle.symbol_table.specs.Externals.{External}
+use Rattle.symbol_table.specs.Externals.{External, with_name}
 use Rattle.object_set.specs.inside.Rows.{IsRow, AreRows}
 use Rattle.symbol_table.specs.Candidates.{id_of, no_candidates, NamesSeen, names_seen}
 
--- a symbol, as its facts
-abbrev pub external_of : ExternalSymbol → External
-external_of s = record { name = s.name.now; role = s.role; file = s.file; number = s.number; size = s.size; value = s.value }
+-- a symbol with its name, as its facts
+abbrev pub external_of : List ℕ → ExternalSymbol → External
+external_of name s = record { name = name; role = s.role; file = s.file; number = s.number; size = s.size; value = s.value }
 
 -- what is said of a name that comes to names: nothing, where it is new
 abbrev pub candidates_of_new : List (List ℕ) → List ℕ → List Candidates
@@ -45,6 +48,25 @@ IsPaired seen = length seen.candidates ≡ length seen.names
 -- symbols come behind those that were seen
 abbrev pub SeesMore : NamesSeen → NamesSeen → List External → Type 0
 SeesMore old new more = (symbols : List External) → old ≡ names_seen symbols → new ≡ names_seen (symbols ++ more)
+
+-- a name comes to others, where it is new, and its number is k
+pub record IsNumbered (old new : NamesSeen) (name : List ℕ) (k : ℕ) : Type 0 where
+  pub names : new.names ≡ with_name old.names name
+  pub candidates : new.candidates ≡ old.candidates ++ candidates_of_new old.names name
+  pub number : slice_get new.names k ≡ Some name
+
+-- what a map gives for a place in the table of a file's names is the number of the name that begins there
+abbrev pub AreNamePlaces : List (List ℕ) → List ℕ → BTreeMap ℕ ℕ → Type 0
+AreNamePlaces names b places =
+    (place k : ℕ) → get nat_cmp places place ≡ Some k → slice_get names k ≡ Some (name_at (symbol_names b) place)
+
+-- a map learns at most the number of the name at one place
+abbrev pub NotesPlace : BTreeMap ℕ ℕ → BTreeMap ℕ ℕ → ℕ → ℕ → Type 0
+NotesPlace old new place k =
+    (names : List (List ℕ)) (b : List ℕ) →
+    AreNamePlaces names b old →
+    slice_get names k ≡ Some (name_at (symbol_names b) place) →
+    AreNamePlaces names b new
 
 -- the name of symbol j of a file has a number among names, where other files see it
 abbrev pub HasNumber : List (List ℕ) → List ℕ → ℕ → ℕ → Type 0

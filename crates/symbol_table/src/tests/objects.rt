@@ -1,8 +1,8 @@
 // Small object files, made of their symbols.
-use ppc_bytes::constants::{SHN_ABS, SHN_COMMON};
 use object_builder::{FileHeader, Object, Section, Stated, Symbol};
 use object_set::FileBytes;
 use ppc_bytes::Memory;
+use ppc_bytes::constants::{SHN_ABS, SHN_COMMON};
 use std::alloc::Global;
 
 /// STB_LOCAL, as st_info has it.
@@ -104,6 +104,24 @@ fn of_parts<'a>(sections: &'a [Section<'a>], symbols: &'a [Symbol<'a>]) -> Objec
         symbol_names: Stated::TRUE,
         section_names: Stated::TRUE,
     }
+}
+
+/// A symbol with the place of its name among the names.
+pub type Placed<'a> = (&'a [u8], u8, Lies, u32);
+
+/// A file with these symbols, whose names begin where they say.
+pub fn sharing(alloc: Global, placed: &[Placed]) -> Result<FileBytes, Memory> {
+    let mut symbols = Vec::new(alloc);
+    for (name, info, lies, place) in placed {
+        symbols.push(Symbol {
+            stated_name: Some(*place),
+            ..symbol(&(*name, *info, *lies))
+        })?;
+    }
+    Ok(FileBytes {
+        name: String::from_str(alloc, "t.o")?,
+        bytes: of_parts(SECTIONS, &symbols).file(alloc)?,
+    })
 }
 
 /// A file with these symbols.

@@ -1,4 +1,4 @@
-use Rattle.std.proofs.Common.{◌≡◌, ◌<◌, length, arith, ap, ℕ, ◌+◌, sym, subst}
+use Rattle.std.proofs.Common.{◌≡◌, ◌<◌, length, arith, ap, ◌+◌, sym, subst}
 use Rattle.symbol_table.specs.Candidates.{commons_before}
 use Rattle.symbol_table.specs.inside.Commons.{AreCommonNumbers}
 use Rattle.symbol_table.proofs.NumberedCommons.{commons_more}

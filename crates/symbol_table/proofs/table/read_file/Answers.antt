@@ -1,11 +1,10 @@
-use Rattle.std.proofs.Common.{ap, ℕ, ◌+◌, ◌++◌, ◌∙◌, sym, subst}
+use Rattle.std.proofs.Common.{ap, ◌+◌, ◌++◌, ◌∙◌, sym, subst}
 use Rattle.object_set.specs.Files.{file_at}
 use Rattle.object_set.specs.Walks.{items_in}
 use Rattle.symbol_table.specs.Externals.{external_walk}
 use Rattle.symbol_table.specs.Candidates.{names_seen}
-use Rattle.symbol_table.specs.inside.Names.{AreNameNumbers, HasNumber}
+use Rattle.symbol_table.specs.inside.Names.{AreNameNumbers}
 use Rattle.symbol_table.proofs.Numbers.{numbers_more, external_step}
-use Rattle.symbol_table.proofs.Steps.{nil_right}
 use Rattle.symbol_table.proofs.table.read_file.Goals as goal
 
 -- one symbol more of the file is read
@@ -24,4 +23,5 @@ loop-j-preserved c =
       keeps = λ k name found. now.keeps k name (before.keeps k name found);
       numbers = subst (AreNameNumbers c.read_symbol.new.table.names b (j + 1)) (sym c.in_ok-push.ensures.items) more;
       paired = now.paired;
+      places = now.places;
     }

@@ -1,4 +1,4 @@
-use Rattle.std.proofs.Common.{◌≡◌, ◌<◌, arith, length, ap, ◌∙◌, sym, refl, subst, List, ℕ}
+use Rattle.std.proofs.Common.{◌<◌, arith, length, ap, ◌∙◌, sym, refl, subst, List, ℕ}
 use Rattle.std.proofs.lemmas.Option.{slice_get_within, slice_get_read}
 use Rattle.std.proofs.lemmas.List.{length-map}
 use Rattle.object_set.specs.Files.{file_at}

@@ -1,4 +1,4 @@
-use Rattle.std.proofs.Common.{◌≡◌, List, ℕ, sym, ap, ◌∙◌, subst}
+use Rattle.std.proofs.Common.{List, ℕ, sym, ap, ◌∙◌, subst}
 use Rattle.object_set.specs.Files.{file_at}
 use Rattle.object_set.specs.Symbols.{name_of}
 use Rattle.symbol_table.specs.Targets.{IsPlaced}
