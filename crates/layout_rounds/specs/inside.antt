@@ -1,0 +1,4 @@
+pub mod Texts
+pub mod Seen
+pub mod Placed
+pub mod Checked

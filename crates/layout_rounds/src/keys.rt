@@ -1,0 +1,164 @@
+// Call keys: what calls have in common that share a stub.
+ghost use Rattle.std.specs.Prelude.{◌≡◌, ◌-◌, ◌<◌, ◌^◌, length, [], IfOk, OnOk};
+ghost use Rattle.layout_rounds.specs.Shapes.{key_of, same_key, spots_of, with_key, IsSound};
+ghost use Rattle.layout_rounds.specs.Layout.{group_count};
+ghost use Rattle.std.specs.List.{position_or_len};
+ghost use Rattle.layout_rounds.specs.inside.Texts.{text_at};
+ghost use Rattle.layout_rounds.specs.inside.Seen.{rank_of};
+
+use crate::grouping::{Spot, unit_of};
+use crate::shape::{Shape, ShapeSection, ShapeSite};
+use ppc_bytes::Memory;
+use std::alloc::Global;
+use std::collections::BTreeMap;
+use std::marker::Model;
+use stub_kinds::{Class, Key};
+
+/// The sections of a text in stub groups, and the keys of its calls.
+#[derive(Drop)]
+pub struct Keyed {
+    pub(crate) start: u64,
+    pub(crate) reach: u64,
+    pub(crate) unit: u64,
+    pub(crate) sections: Vec<ShapeSection>,
+    pub(crate) spots: Vec<Spot>,
+    pub(crate) keys: Vec<Key>,
+    pub(crate) numbers: Vec<u32>,
+}
+
+impl Model for Keyed {
+    ghost use Rattle.layout_rounds.specs.Shapes.{KeyedText, keyed_parts};
+    ghost use Rattle.layout_rounds.specs.inside.Texts.{IsKeyedWith};
+
+    ghost Value = { KeyedText };
+
+    ghost view = { λ k.
+        keyed_parts k.start k.reach k.sections.items k.spots.items k.keys.items k.numbers.items };
+
+    ghost invariant = { λ k. IsKeyedWith
+        (keyed_parts k.start k.reach k.sections.items k.spots.items k.keys.items k.numbers.items)
+        k.unit };
+}
+
+impl Keyed {
+    /// How many stub groups there are.
+    pub(crate) fn group_count(&self) -> u32
+        ensures { result ≡ group_count self.now }
+    {
+        match self.spots.last() {
+            Some(spot) => spot.group + 1,
+            None => 0,
+        }
+    }
+}
+
+/// A number for each class, by which keys are sorted.
+fn rank(class: Class) -> u32
+    ensures { result ≡ rank_of class }
+{
+    match class {
+        Class::Same => 0,
+        Class::Switch => 1,
+        Class::Save => 2,
+        Class::NearN => 3,
+        Class::EntrySave => 4,
+        Class::EntryBare => 5,
+        Class::EntryN => 6,
+    }
+}
+
+/// The key of a call.
+fn key_of(spots: &[Spot], site: ShapeSite) -> Key
+    requires { site.section < length spots.now }
+    ensures { result ≡ key_of spots.now site }
+{
+    Key {
+        group: spots[site.section as usize].group,
+        class: site.class,
+        section: site.to_section,
+        offset: site.to_offset,
+    }
+}
+
+/// The keys that were seen, in order, and the number of each by what sorts them. Contracts see the keys.
+#[derive(Drop)]
+struct Seen {
+    keys: Vec<Key>,
+    numbers: BTreeMap<((u32, u32), (u32, u64)), u32>,
+}
+
+impl Model for Seen {
+    ghost use Rattle.std.specs.Prelude.{List};
+    ghost use Rattle.stub_kinds.specs.declared.class.Key.{Key};
+    ghost use Rattle.layout_rounds.specs.inside.Seen.{AreNumbered};
+
+    ghost Value = { List Key };
+
+    ghost view = { λ s. s.keys.items };
+
+    ghost invariant = { λ s. AreNumbered s.keys.items s.numbers };
+}
+
+impl Seen {
+    /// No key.
+    fn none(alloc: Global) -> Seen
+        ensures { result ≡ [] }
+    {
+        Seen {
+            keys: Vec::new(alloc),
+            numbers: BTreeMap::new(alloc),
+        }
+    }
+
+    /// The number of a key, which joins the others if it is new.
+    fn number(&mut self, key: Key) -> Result<u32, Memory>
+        requires { length self.old < 2 ^ 32 - 1 }
+        ensures keys { OnOk result (self.new ≡ with_key self.old key) }
+        ensures number { IfOk result (λ n. n ≡ position_or_len (same_key key) self.new) }
+    {
+        let sorted = ((key.group, rank(key.class)), (key.section, key.offset));
+        match self.numbers.get(&sorted).copied() {
+            Some(number) => Ok(number),
+            None => {
+                let number = self.keys.len() as u32;
+                self.keys.push(key)?;
+                match self.numbers.insert(sorted, number) {
+                    Ok(_) => Ok(number),
+                    Err(_) => {
+                        self.keys.pop();
+                        Err(Memory)
+                    }
+                }
+            }
+        }
+    }
+}
+
+/// The text with its keys, in order of their first calls.
+pub(crate) fn key_text(
+    alloc: Global,
+    shape: &Shape,
+    reach: u64,
+    spots: Vec<Spot>,
+) -> Result<Keyed, Memory>
+    requires sound { IsSound shape.now }
+    requires reach { reach < 2 ^ 32 }
+    requires spots { spots.items ≡ spots_of shape.now.sections.items reach }
+    ensures { IfOk result (λ keyed. keyed ≡ text_at shape.now reach spots.items) }
+{
+    let mut seen = Seen::none(alloc);
+    let mut numbers = Vec::new(alloc);
+    for site in shape.sites.iter() {
+        let number = seen.number(key_of(&spots, *site))?;
+        numbers.push(number)?;
+    }
+    Ok(Keyed {
+        start: shape.start,
+        reach,
+        unit: unit_of(shape.sections.as_slice()),
+        sections: Vec::from_slice(alloc, shape.sections.as_slice())?,
+        spots,
+        keys: seen.keys,
+        numbers,
+    })
+}

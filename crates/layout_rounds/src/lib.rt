@@ -1,0 +1,18 @@
+// Where text sections and stubs stand: stub groups, call keys, and the layout of a set of keys whose stubs are far (ELFv2 ABI, "Function
+// Call"). All of it is a function of the sizes and alignments of the sections and of the places of the calls; nothing is looked up.
+#![tactic(auto)]
+
+mod far_set;
+mod grouping;
+mod keys;
+mod placing;
+mod shape;
+
+pub use far_set::FarSet;
+pub use grouping::{Spot, group};
+pub use keys::Keyed;
+pub use placing::{Places, place};
+pub use shape::{Shape, ShapeSection, ShapeSite};
+
+#[cfg(test)]
+mod tests;
