@@ -85,10 +85,10 @@ const LEAVES: [(&str, &str, Reason, u64); 27] = [
     ),
     ("li r0,2; sc", "38000002 44000002", Reason::Call, 0x1044),
     (
-        "a read of no bytes at 0",
-        "38000003 44000002",
+        "a read of a byte at 0",
+        "38000003 38A00001 44000002",
         Reason::Store,
-        0x1044,
+        0x1048,
     ),
     (
         "li r0,3; li r4,0x103C; li r5,5; sc",
