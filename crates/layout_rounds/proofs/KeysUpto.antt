@@ -34,7 +34,7 @@ with_either keys key = elim (known (list_any (same_key key) keys)) [
 long_as : (xs ys : List Key) → xs ≡ ys → length xs ≡ length ys
 long_as xs ys e = ap (λ (zs : List Key). length zs) e
 
-with_long : (keys : List Key) (key : Key) →
+pub with_long : (keys : List Key) (key : Key) →
     (length keys ≤ length (with_key keys key)) × (length (with_key keys key) ≤ length keys + 1)
 with_long keys key = elim (with_either keys key) [
   | inl e ↦ let long = long_as (with_key keys key) keys e in (omega (arith, long), omega (arith, long))
@@ -43,7 +43,7 @@ with_long keys key = elim (with_either keys key) [
       (omega (arith, long, more), omega (arith, long, more))
 ]
 
-with_kept : (p : Key → Bool) (keys : List Key) (key : Key) →
+pub with_kept : (p : Key → Bool) (keys : List Key) (key : Key) →
     position_or_len p keys < length keys →
     position_or_len p (with_key keys key) ≡ position_or_len p keys
 with_kept p keys key lt = elim (with_either keys key) [
@@ -54,7 +54,7 @@ with_kept p keys key lt = elim (with_either keys key) [
 below_or : (a b : ℕ) → a ≤ b → (a < b) ⊎ (a ≡ b)
 below_or a b le = grind arith
 
-with_found : (keys : List Key) (key : Key) →
+pub with_found : (keys : List Key) (key : Key) →
     position_or_len (same_key key) (with_key keys key) < length (with_key keys key)
 with_found keys key = elim (below_or (position_or_len (same_key key) keys) (length keys)
     (first_most (same_key key) keys)) [

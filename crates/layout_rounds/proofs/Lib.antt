@@ -6,3 +6,6 @@ pub mod Placements
 pub mod KeyNumbers
 pub mod KeysUpto
 pub mod Counting
+pub mod Growth
+pub mod Shrinking
+pub mod Called

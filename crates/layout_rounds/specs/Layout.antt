@@ -65,6 +65,10 @@ module _ (t : KeyedText) where
   abbrev pub area_start : ℕ → Point
   area_start g = record { group = g; offset = padded t (group_size t g) }
 
+-- its padded end, where the next group starts
+abbrev pub area_end : ℕ → Point
+area_end g = record { group = suc g; offset = 0 }
+
 module _ (t : KeyedText) (F : ℕ → Bool) where
   -- how many bytes the stub of key k has
   abbrev pub stub_size : ℕ → ℕ

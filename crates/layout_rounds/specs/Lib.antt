@@ -2,3 +2,4 @@ pub mod Shapes
 pub mod Layout
 pub mod FarSets
 pub mod inside
+pub mod Reach

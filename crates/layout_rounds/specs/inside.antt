@@ -2,3 +2,4 @@ pub mod Texts
 pub mod Seen
 pub mod Placed
 pub mod Checked
+pub mod Calls

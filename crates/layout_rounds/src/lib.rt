@@ -5,12 +5,14 @@
 mod far_set;
 mod grouping;
 mod keys;
+mod laws;
 mod placing;
 mod shape;
 
 pub use far_set::FarSet;
 pub use grouping::{Spot, group};
 pub use keys::Keyed;
+pub use laws::{areas_grow, one_far_set, reach_shrinks};
 pub use placing::{Places, place};
 pub use shape::{Shape, ShapeSection, ShapeSite};
 

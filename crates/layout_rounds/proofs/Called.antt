@@ -1,0 +1,73 @@
+-- The calls of the text that is made of a shape.
+use Rattle.std.proofs.Common.{ℕ, zero, suc, ◌≡◌, ◌<◌, ◌≤◌, inl, inr, List, length, slice_index, get_or, refl}
+use Rattle.std.proofs.Common.{ap, sym, ◌∙◌, subst, arith}
+use Rattle.std.specs.List.{position_or_len}
+use Rattle.std.proofs.lemmas.List.{get_or-map, length-map}
+use Rattle.std.proofs.lemmas.List.Sums.{passes_at_first}
+use Rattle.layout_rounds.specs.declared.shape.Shape.{Shape}
+use Rattle.layout_rounds.specs.declared.shape.ShapeSite.{ShapeSite}
+use Rattle.layout_rounds.specs.declared.grouping.Spot.{Spot}
+use Rattle.layout_rounds.specs.Shapes.{keyed_text, site_of, no_site, key_of, same_key, keys_upto, keys_of, with_key}
+use Rattle.layout_rounds.specs.Shapes.{number_of, IsSound}
+use Rattle.layout_rounds.specs.Layout.{no_key, key_at}
+use Rattle.layout_rounds.specs.inside.Calls.{AreCalls}
+use Rattle.layout_rounds.proofs.KeyNumbers.{sorted_from_same}
+use Rattle.layout_rounds.proofs.KeysUpto.{with_long, with_kept, with_found, keys_sound}
+use Rattle.layout_rounds.proofs.Placements.{split}
+
+-- there are no more keys than calls
+pub keys_few : (spots : List Spot) (sites : List ShapeSite) (n : ℕ) → length (keys_upto spots sites n) ≤ n
+keys_few spots sites zero = omega arith
+keys_few spots sites (suc n) =
+    let ih = keys_few spots sites n in
+    let long = with_long (keys_upto spots sites n) (key_of spots (site_of sites n)) in
+    omega (arith, ih, long.1)
+
+-- each call's key is one of them
+found_upto : (spots : List Spot) (sites : List ShapeSite) (j n : ℕ) →
+    j < n →
+    position_or_len (same_key (key_of spots (site_of sites j))) (keys_upto spots sites n) < length (keys_upto spots sites n)
+found_upto spots sites j zero lt = absurd (omega (arith, lt))
+found_upto spots sites j (suc n) lt =
+    let keys = keys_upto spots sites n in
+    let key = key_of spots (site_of sites n) in
+    elim (split j n (omega (arith, lt))) [
+      | inl below ↦
+          let ih = found_upto spots sites j n below in
+          let kept = with_kept (same_key (key_of spots (site_of sites j))) keys key ih in
+          let long = with_long keys key in
+          omega (arith, ih, kept, long.0)
+      | inr same ↦ subst
+          (λ (i : ℕ). position_or_len (same_key (key_of spots (site_of sites i))) (with_key keys key) < length
+          (with_key keys key))
+          (sym same) (with_found keys key)
+    ]
+
+pub are_calls : (shape : Shape) (span : ℕ) → IsSound shape → AreCalls (keyed_text shape span) shape.sites.items
+are_calls shape span sound =
+    let t = keyed_text shape span in
+    let sites = shape.sites.items in
+    let keys = keys_of t.spots sites in
+    let number : (i : ℕ) → i < length sites → slice_index t.numbers i ≡ number_of t.spots keys (site_of sites i) =
+    λ i lt. get_or-map (number_of t.spots keys) sites i no_site 0 lt in
+    let found : (i : ℕ) → i < length sites → number_of t.spots keys (site_of sites i) < length keys =
+    λ i lt. found_upto t.spots sites i (length sites) lt in
+    record {
+      keyed = record {
+        start_whole = sound.start_whole;
+        start_low = sound.start_low;
+        sections = sound.sections;
+        spots = refl;
+        few_keys = let few = keys_few t.spots sites (length sites) in omega (arith, few, sound.few_sites);
+        keys = keys_sound shape t.spots (no_key t) sound (length sites) (omega arith);
+      };
+      count = length-map sites (number_of t.spots keys);
+      from = sound.from;
+      numbered = λ i lt. let is = number i lt in let within = found i lt in omega (arith, is, within);
+      group = λ i lt.
+          ap (λ (k : ℕ). (key_at t k).group) (number i lt)
+          ∙ sym (ap (λ (x : (ℕ × ℕ) × (ℕ × ℕ)). x.0.0)
+          (sorted_from_same (key_of t.spots (site_of sites i))
+          (get_or keys (number_of t.spots keys (site_of sites i)) (no_key t))
+          (passes_at_first (same_key (key_of t.spots (site_of sites i))) keys (no_key t) (found i lt))));
+    }
