@@ -1,7 +1,7 @@
 -- Rounding up.
 use Rattle.std.proofs.Common.{ℕ, ◌≡◌, ◌<◌, ◌≤◌, ◌+◌, ◌-◌, ◌*◌, ◌/◌, ◌%◌, ap, sym, ◌∙◌, arith}
 use Rattle.std.proofs.lemmas.Nat.{div-mul-add, div-add-mod', pow_pos}
-use Rattle.std.proofs.Math.Nat.{div-mul-le_self}
+use Rattle.std.proofs.Math.Nat.{div-mul-le_self, mod-lt}
 use Rattle.ppc_bytes.specs.Bytes.{IsAlignedUp, IsPowerOfTwo}
 use Rattle.layout_rounds.specs.Shapes.{aligned}
 
@@ -22,3 +22,9 @@ aligned_is n a r some up =
 
 pub aligned_most : (n a : ℕ) → aligned n a ≤ n + (a - 1)
 aligned_most n a = div-mul-le_self (n + (a - 1)) a
+
+pub aligned_least : (n u : ℕ) → 0 < u → n ≤ aligned n u
+aligned_least n u some =
+    let whole : (n + (u - 1)) / u * u + (n + (u - 1)) % u ≡ n + (u - 1) = div-add-mod' (n + (u - 1)) u in
+    let rest : (n + (u - 1)) % u < u = mod-lt (n + (u - 1)) some in
+    omega (arith, whole, rest, some)

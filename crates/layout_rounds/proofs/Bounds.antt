@@ -11,15 +11,16 @@ use Rattle.layout_rounds.specs.declared.shape.ShapeSection.{ShapeSection}
 use Rattle.layout_rounds.specs.declared.grouping.Spot.{Spot}
 use Rattle.layout_rounds.specs.Shapes.{KeyedText, spot_at, spot_of, section_of, unit_upto, AreSound}
 use Rattle.layout_rounds.specs.Layout.{section_count, key_count, key_at, section_size, group_at, offset_at, unit, padded, size_upto}
-use Rattle.layout_rounds.specs.Layout.{group_size, groups_upto, group_count, stub_size, stub_bytes, area, group_start, IsKeyed}
-use Rattle.layout_rounds.proofs.Aligned.{aligned_most}
+use Rattle.layout_rounds.specs.Layout.{group_size, groups_upto, group_count, stub_size, stub_bytes, area, group_start, address, area_start}
+use Rattle.layout_rounds.specs.Layout.{section_address, stub_address, IsKeyed}
+use Rattle.layout_rounds.proofs.Aligned.{power_pos, aligned_most, aligned_least}
 use Rattle.layout_rounds.proofs.Spots.{next_either, group_most, offset_most, group_rises}
 use Rattle.layout_rounds.proofs.Totals.{total, total_grows}
 
-pub if_same : (a g x : ℕ) → a ≡ g → (if a == g then x else 0) ≡ x
+if_same : (a g x : ℕ) → a ≡ g → (if a == g then x else 0) ≡ x
 if_same a g x same = grind (arith, nat_tests)
 
-pub if_other : (a g x : ℕ) → a ≢ g → (if a == g then x else 0) ≡ 0
+if_other : (a g x : ℕ) → a ≢ g → (if a == g then x else 0) ≡ 0
 if_other a g x apart = grind (arith, nat_tests)
 
 if_most : (a g x : ℕ) → (if a == g then x else 0) ≤ x
@@ -35,7 +36,7 @@ max_power a b pa pb = elim (larger a b) [
 ]
 
 -- the unit is a power of two
-pub unit_power : (sections : List ShapeSection) →
+unit_power : (sections : List ShapeSection) →
     AreSound sections →
     (n : ℕ) →
     n ≤ length sections →
@@ -47,7 +48,7 @@ unit_power sections sound (suc n) le =
     (sound.each n (omega (arith, le))).power
 
 -- of at most 64 KiB
-pub unit_most : (sections : List ShapeSection) →
+unit_most : (sections : List ShapeSection) →
     AreSound sections →
     (n : ℕ) →
     n ≤ length sections →
@@ -56,7 +57,7 @@ unit_most sections sound zero le = omega arith
 unit_most sections sound (suc n) le =
     omega (arith, unit_most sections sound n (omega (arith, le)), (sound.each n (omega (arith, le))).most)
 
-pub size_most : (class : Class) (far : Bool) → size_of class far ≤ 32
+size_most : (class : Class) (far : Bool) → size_of class far ≤ 32
 size_most Same false = omega arith
 size_most Same true = omega arith
 size_most Switch false = omega arith
@@ -73,6 +74,12 @@ module _ (t : KeyedText) (keyed : IsKeyed t) where
   pub unit_power_of_two : IsPowerOfTwo (unit t)
   unit_power_of_two = unit_power t.sections keyed.sections (section_count t) (omega arith)
 
+  pub unit_some : 0 < unit t
+  unit_some = power_pos (unit t) unit_power_of_two
+
+  pub padded_least : (n : ℕ) → n ≤ padded t n
+  padded_least n = aligned_least n (unit t) unit_some
+
   pub unit_small : unit t ≤ 0x10000
   unit_small = unit_most t.sections keyed.sections (section_count t) (omega arith)
 
@@ -80,15 +87,15 @@ module _ (t : KeyedText) (keyed : IsKeyed t) where
   spots_count = ap (λ (xs : List Spot). length xs) keyed.spots ∙
       length-map-range_with_len (spot_at t.sections t.reach) 0 (section_count t)
 
-  pub at_spot : (s : ℕ) → s < section_count t → spot_of t.spots s ≡ spot_at t.sections t.reach s
+  at_spot : (s : ℕ) → s < section_count t → spot_of t.spots s ≡ spot_at t.sections t.reach s
   at_spot s lt =
       ap (λ (xs : List Spot). spot_of xs s) keyed.spots
       ∙ get_or-map-range_with_len (spot_at t.sections t.reach) 0 (section_count t) s s _ lt (omega arith)
 
-  pub at_group : (s : ℕ) → s < section_count t → group_at t s ≡ (spot_at t.sections t.reach s).group
+  at_group : (s : ℕ) → s < section_count t → group_at t s ≡ (spot_at t.sections t.reach s).group
   at_group s lt = ap (λ (x : Spot). x.group) (at_spot s lt)
 
-  pub at_offset : (s : ℕ) → s < section_count t → offset_at t s ≡ (spot_at t.sections t.reach s).offset
+  at_offset : (s : ℕ) → s < section_count t → offset_at t s ≡ (spot_at t.sections t.reach s).offset
   at_offset s lt = ap (λ (x : Spot). x.offset) (at_spot s lt)
 
   size_small : (s : ℕ) → s < section_count t → section_size t s < 0x100000000
@@ -182,7 +189,7 @@ module _ (t : KeyedText) (keyed : IsKeyed t) where
     bytes_total zero n = no_bytes n
     bytes_total (suc k) n = omega (arith, more_bytes k n, bytes_total k n)
 
-    pub bytes_small : (g k : ℕ) → stub_bytes t F g k ≤ k * 32
+    bytes_small : (g k : ℕ) → stub_bytes t F g k ≤ k * 32
     bytes_small g zero = omega arith
     bytes_small g (suc k) =
         let most = if_most (key_at t k).group g (stub_size t F k) in
@@ -198,7 +205,7 @@ module _ (t : KeyedText) (keyed : IsKeyed t) where
         omega (arith, start_most g, sections_padded, stubs_padded, unit_small)
 
     -- groups start below 2^61
-    pub start_small : (g : ℕ) → g ≤ group_count t → group_start t F g < 2 ^ 61
+    start_small : (g : ℕ) → g ≤ group_count t → group_start t F g < 2 ^ 61
     start_small g le = omega (
       arith,
       start_most g,
@@ -211,29 +218,15 @@ module _ (t : KeyedText) (keyed : IsKeyed t) where
       keyed.start_low,
     )
 
-    start_next : (g : ℕ) → g < group_count t → group_start t F g + padded t (group_size t g) + area t F g < 2 ^ 61
-    start_next g lt = start_small (suc g) lt
+    -- a stub area ends below 2^61
+    pub area_low : (g : ℕ) → g < group_count t → address t F (area_start t g) + area t F g < 2 ^ 61
+    area_low g lt = start_small (suc g) lt
 
     -- a section ends below 2^62
-    pub section_small : (s : ℕ) →
-        s < section_count t →
-        group_start t F (group_at t s) + offset_at t s + section_size t s < 2 ^ 62
-    section_small s lt =
+    pub section_low : (s : ℕ) → s < section_count t → section_address t F s + section_size t s < 2 ^ 62
+    section_low s lt =
         let here = counted s lt in
         omega (arith, start_small (group_at t s) (omega (arith, here)), offset_small s lt, keyed.sections.few, lt)
-
-    -- a stub area starts below 2^61, and a stub ends below 2^62
-    pub area_small : (g : ℕ) → g < group_count t → group_start t F g + padded t (group_size t g) < 2 ^ 61
-    area_small g lt = omega (arith, start_next g lt)
-
-    pub padded_small : (g : ℕ) → g < group_count t → group_start t F g + padded t (group_size t g) + area t F g < 2 ^ 61
-    padded_small g lt = start_next g lt
-
-    pub stub_small : (g k : ℕ) →
-        g < group_count t →
-        k < key_count t →
-        group_start t F g + padded t (group_size t g) + stub_bytes t F g k + stub_size t F k < 2 ^ 62
-    stub_small g k lt within = omega (arith, area_small g lt, bytes_small g k, stub_most k, within, keyed.few_keys)
 
   -- the group of a key is there
   pub key_counted : (k : ℕ) → k < key_count t → (key_at t k).group < group_count t
@@ -242,9 +235,8 @@ module _ (t : KeyedText) (keyed : IsKeyed t) where
       let here = counted place.0 place.1 in
       omega (arith, here, place.2)
 
-  -- a group has few bytes
-  pub size_most_upto : (g n : ℕ) → n ≤ section_count t → size_upto t g n ≤ n * 0x100010000
-  size_most_upto g zero le = omega arith
-  size_most_upto g (suc n) le =
-      let most = if_most (group_at t n) g (offset_at t n + section_size t n) in
-      omega (arith, most, offset_small n (omega (arith, le)), size_most_upto g n (omega (arith, le)))
+  -- a stub ends below 2^62
+  pub stub_low : (F : ℕ → Bool) (k : ℕ) → k < key_count t → stub_address t F k + stub_size t F k < 2 ^ 62
+  stub_low F k lt =
+      let g = (key_at t k).group in
+      omega (arith, area_low F g (key_counted k lt), bytes_small F g k, stub_most F k, lt, keyed.few_keys)

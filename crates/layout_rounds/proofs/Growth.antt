@@ -1,9 +1,8 @@
 -- What stands between two places grows with the set of far keys.
-use Rattle.std.proofs.Common.{ℕ, zero, suc, ◌≡◌, ◌<◌, ◌≤◌, ◌+◌, ◌-◌, ◌*◌, ◌/◌, ◌%◌, ◌⊎◌, inl, inr, Bool, true, false, refl, subst, arith}
+use Rattle.std.proofs.Common.{ℕ, zero, suc, ◌≡◌, ◌<◌, ◌≤◌, ◌+◌, ◌-◌, ◌/◌, ◌⊎◌, inl, inr, Bool, true, false, refl, subst, arith}
 use Rattle.std.proofs.Common.{if◌then◌else◌, ◌==◌}
 use Rattle.std.proofs.lemmas.Bool.Decides.{nat_tests}
-use Rattle.std.proofs.lemmas.Nat.{div-add-mod'}
-use Rattle.std.proofs.Math.Nat.{div-mul-le_self, le-div_iff_mul-le, mul-le-mul_right, mod-lt}
+use Rattle.std.proofs.Math.Nat.{div-mul-le_self, le-div_iff_mul-le, mul-le-mul_right}
 use Rattle.stub_kinds.specs.declared.class.Class.{Class}
 use Rattle.stub_kinds.specs.declared.class.Class.TheVariants.{Same, Switch, Save, NearN, EntrySave, EntryBare, EntryN}
 use Rattle.stub_kinds.specs.Stubs.{size_of}
@@ -11,8 +10,7 @@ use Rattle.layout_rounds.specs.FarSets.{◌⊆◌}
 use Rattle.layout_rounds.specs.Shapes.{KeyedText, aligned, IsInText}
 use Rattle.layout_rounds.specs.Layout.{section_count, key_count, key_at, section_size, group_at, offset_at, unit, padded, size_upto}
 use Rattle.layout_rounds.specs.Layout.{group_size, stub_size, stub_bytes, area, group_start, IsKeyed}
-use Rattle.layout_rounds.proofs.Aligned.{power_pos}
-use Rattle.layout_rounds.proofs.Bounds.{unit_power_of_two, ends_within}
+use Rattle.layout_rounds.proofs.Bounds.{unit_some, padded_least, ends_within}
 
 size_grows : (class : Class) (f g : Bool) → (f ≡ true → g ≡ true) → size_of class f ≤ size_of class g
 size_grows Same false g sub = omega arith
@@ -40,12 +38,6 @@ aligned_grows m n u some le =
     {k = u} {x = (m + (u - 1)) / u} {y = n + (u - 1)} some).1 (omega (arith, self, le)) in
     mul-le-mul_right u quotient
 
-aligned_least : (n u : ℕ) → 0 < u → n ≤ aligned n u
-aligned_least n u some =
-    let whole : (n + (u - 1)) / u * u + (n + (u - 1)) % u ≡ n + (u - 1) = div-add-mod' (n + (u - 1)) u in
-    let rest : (n + (u - 1)) % u < u = mod-lt (n + (u - 1)) some in
-    omega (arith, whole, rest, some)
-
 pub split_le : (t s : ℕ) → t ≤ suc s → (t ≤ s) ⊎ (t ≡ suc s)
 split_le t s le = grind arith
 
@@ -53,14 +45,8 @@ split_lt : (t s : ℕ) → t < suc s → (t < s) ⊎ (t ≡ s)
 split_lt t s lt = grind arith
 
 module _ (t : KeyedText) (keyed : IsKeyed t) where
-  unit_some : 0 < unit t
-  unit_some = power_pos (unit t) (unit_power_of_two t keyed)
-
   padded_grows : (m n : ℕ) → m ≤ n → padded t m ≤ padded t n
-  padded_grows m n le = aligned_grows m n (unit t) unit_some le
-
-  padded_least : (n : ℕ) → n ≤ padded t n
-  padded_least n = aligned_least n (unit t) unit_some
+  padded_grows m n le = aligned_grows m n (unit t) (unit_some t keyed) le
 
   section_within : (s n : ℕ) → s < n → offset_at t s + section_size t s ≤ size_upto t (group_at t s) n
   section_within s zero lt = absurd (omega (arith, lt))
@@ -75,7 +61,7 @@ module _ (t : KeyedText) (keyed : IsKeyed t) where
       IsInText t.sections s offset →
       offset_at t s + offset ≤ padded t (group_size t (group_at t s))
   point_within s offset here =
-      let least = padded_least (group_size t (group_at t s)) in
+      let least = padded_least t keyed (group_size t (group_at t s)) in
       let size = section_within s (section_count t) here.section_in in
       omega (arith, least, size, here.within)
 

@@ -29,7 +29,7 @@ impl FarSet {
         ensures empty { IfOk result (λ set. (k : ℕ) → member set k ≡ false) }
     {
         Ok(FarSet {
-            flags: vec![in alloc; false; keyed.keys.len()]?,
+            flags: vec![in alloc; false; keyed.key_count() as usize]?,
         })
     }
 

@@ -1,18 +1,21 @@
 // Call keys: what calls have in common that share a stub.
-ghost use Rattle.std.specs.Prelude.{◌≡◌, ◌-◌, ◌<◌, ◌^◌, length, [], IfOk, OnOk};
+ghost use Rattle.std.specs.Prelude.{◌≡◌, ◌+◌, ◌-◌, ◌<◌, ◌^◌, ℕ, Bool, length, [], IfOk, OnOk};
+ghost use Rattle.layout_rounds.specs.FarSets.{member};
 ghost use Rattle.layout_rounds.specs.Shapes.{key_of, same_key, spots_of, with_key, IsSound};
-ghost use Rattle.layout_rounds.specs.Layout.{group_count};
+ghost use Rattle.layout_rounds.specs.Layout.{address, area, area_start, group_at, group_count, key_at, key_count, offset_at};
+ghost use Rattle.layout_rounds.specs.Layout.{padded, section_address, section_count, section_size, stub_address, stub_size};
 ghost use Rattle.std.specs.List.{position_or_len};
 ghost use Rattle.layout_rounds.specs.inside.Texts.{text_at};
 ghost use Rattle.layout_rounds.specs.inside.Seen.{rank_of};
 
+use crate::far_set::FarSet;
 use crate::grouping::{Spot, unit_of};
 use crate::shape::{Shape, ShapeSection, ShapeSite};
-use ppc_bytes::Memory;
+use ppc_bytes::{Memory, align_up};
 use std::alloc::Global;
 use std::collections::BTreeMap;
 use std::marker::Model;
-use stub_kinds::{Class, Key};
+use stub_kinds::{Class, Key, size};
 
 /// The sections of a text in stub groups, and the keys of its calls.
 #[derive(Drop)]
@@ -41,14 +44,89 @@ impl Model for Keyed {
 }
 
 impl Keyed {
+    /// The address of the first section.
+    pub(crate) fn start(&self) -> u64
+        ensures { result ≡ self.now.start }
+    {
+        self.start
+    }
+
     /// How many stub groups there are.
     pub(crate) fn group_count(&self) -> u32
-        ensures { result ≡ group_count self.now }
+        ensures count { result ≡ group_count self.now }
+        // where their stub areas end, whichever keys are far
+        ensures low { (F : ℕ → Bool) (g : ℕ) → g < result →
+            address self.now F (area_start self.now g) + area self.now F g < 2 ^ 61 }
     {
         match self.spots.last() {
             Some(spot) => spot.group + 1,
             None => 0,
         }
+    }
+
+    /// How many sections there are.
+    pub(crate) fn section_count(&self) -> u32
+        ensures count { result ≡ section_count self.now }
+        // where they end, whichever keys are far
+        ensures low { (F : ℕ → Bool) (s : ℕ) → s < result →
+            section_address self.now F s + section_size self.now s < 2 ^ 62 }
+    {
+        self.sections.len() as u32
+    }
+
+    /// How many keys there are.
+    pub(crate) fn key_count(&self) -> u32
+        ensures count { result ≡ key_count self.now }
+        // where their stubs end, whichever keys are far
+        ensures low { (F : ℕ → Bool) (k : ℕ) → k < result →
+            stub_address self.now F k + stub_size self.now F k < 2 ^ 62 }
+    {
+        self.keys.len() as u32
+    }
+
+    /// Where a section stands.
+    pub(crate) fn spot_of(&self, section: u32) -> Spot
+        requires { section < section_count self.now }
+        ensures group { result.group ≡ group_at self.now section }
+        ensures offset { result.offset ≡ offset_at self.now section }
+        ensures within { result.group < group_count self.now }
+        ensures room { result.offset + section_size self.now section < 2 ^ 61 }
+    {
+        self.spots[section as usize]
+    }
+
+    /// How many bytes a section has.
+    pub(crate) fn section_size(&self, section: u32) -> u64
+        requires { section < section_count self.now }
+        ensures { result ≡ section_size self.now section }
+    {
+        self.sections[section as usize].size
+    }
+
+    /// The key with a number.
+    pub(crate) fn key(&self, k: u32) -> Key
+        requires { k < key_count self.now }
+        ensures key { result ≡ key_at self.now k }
+        ensures within { result.group < group_count self.now }
+    {
+        self.keys[k as usize]
+    }
+
+    /// How many bytes the stub of a key has, where these keys are far.
+    pub(crate) fn stub_size(&self, far: &FarSet, k: u32) -> u64
+        requires key { k < key_count self.now }
+        requires room { length far.now ≡ key_count self.now }
+        ensures { result ≡ stub_size self.now (member far.now) k }
+    {
+        u64::from(size(self.keys[k as usize].class, far.holds(k)))
+    }
+
+    /// A number of bytes, padded to the alignment of stub groups and stub areas.
+    pub(crate) fn padded(&self, n: u64) -> u64
+        requires { padded self.now n < 2 ^ 62 }
+        ensures { result ≡ padded self.now n }
+    {
+        align_up(n, self.unit)
     }
 }
 

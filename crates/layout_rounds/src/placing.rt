@@ -7,11 +7,10 @@ ghost use Rattle.layout_rounds.specs.inside.Placed.{AreSections, AreStubs};
 
 use crate::far_set::FarSet;
 use crate::keys::Keyed;
-use ppc_bytes::{Memory, Steps, align_up};
+use ppc_bytes::{Memory, Steps};
 use std::alloc::Global;
 use std::marker::Model;
 use std::sync::ledger::Ledger;
-use stub_kinds::size;
 
 /// The addresses of sections and stubs.
 #[derive(Drop)]
@@ -67,9 +66,9 @@ fn group_sizes(alloc: Global, keyed: &Keyed) -> Result<Vec<u64>, Memory>
     ensures { IfOk result (λ sizes. AreSizes keyed.now (length keyed.now.sections) sizes.items) }
 {
     let mut sizes = vec![in alloc; 0u64; keyed.group_count() as usize]?;
-    for s in 0..keyed.sections.len() {
-        let spot = keyed.spots[s];
-        let end = spot.offset + keyed.sections[s].size;
+    for s in 0..keyed.section_count() {
+        let spot = keyed.spot_of(s);
+        let end = spot.offset + keyed.section_size(s);
         let g = spot.group as usize;
         sizes[g] = sizes[g].max(end);
     }
@@ -92,11 +91,11 @@ fn areas_of(alloc: Global, keyed: &Keyed, far: &FarSet) -> Result<Areas, Memory>
 {
     let mut bytes = vec![in alloc; 0u64; keyed.group_count() as usize]?;
     let mut offsets = Vec::new(alloc);
-    for k in 0..keyed.keys.len() {
-        let key = keyed.keys[k];
-        let g = key.group as usize;
-        offsets.push(bytes[g])?;
-        bytes[g] += u64::from(size(key.class, far.holds(k as u32)));
+    for k in 0..keyed.key_count() {
+        let g = keyed.key(k).group as usize;
+        let offset = bytes[g];
+        offsets.push(offset)?;
+        bytes[g] = offset + keyed.stub_size(far, k);
     }
     Ok(Areas { offsets, bytes })
 }
@@ -122,12 +121,12 @@ fn starts_of(
 {
     let mut groups = Vec::new(alloc);
     let mut areas = Vec::new(alloc);
-    let mut top = keyed.start;
-    for g in 0..sizes.len() {
+    let mut top = keyed.start();
+    for g in 0..keyed.group_count() as usize {
         groups.push(top)?;
-        let area = top + align_up(sizes[g], keyed.unit);
+        let area = top + keyed.padded(sizes[g]);
         areas.push(area)?;
-        top = area + align_up(bytes[g], keyed.unit);
+        top = area + keyed.padded(bytes[g]);
     }
     groups.push(top)?;
     Ok(Starts { groups, areas })
@@ -147,8 +146,8 @@ fn stubs_of(
         AreStubs keyed.now (member far.now) (key_count keyed.now) stubs.items) }
 {
     let mut stubs = Vec::new(alloc);
-    for k in 0..keyed.keys.len() {
-        stubs.push(areas[keyed.keys[k].group as usize] + offsets[k])?;
+    for k in 0..keyed.key_count() {
+        stubs.push(areas[keyed.key(k).group as usize] + offsets[k as usize])?;
     }
     Ok(stubs)
 }
@@ -165,8 +164,8 @@ fn sections_of(
         AreSections keyed.now (member far.now) (length keyed.now.sections) sections.items) }
 {
     let mut sections = Vec::new(alloc);
-    for s in 0..keyed.sections.len() {
-        let spot = keyed.spots[s];
+    for s in 0..keyed.section_count() {
+        let spot = keyed.spot_of(s);
         sections.push(starts[spot.group as usize] + spot.offset)?;
     }
     Ok(sections)
@@ -177,9 +176,9 @@ fn sections_end(keyed: &Keyed, far: &FarSet, sections: &[u64]) -> u64
     requires { AreSections keyed.now (member far.now) (length keyed.now.sections) sections.now }
     ensures { result ≡ sections_end keyed.now (member far.now) (length keyed.now.sections) }
 {
-    let mut end = keyed.start;
-    for s in 0..keyed.sections.len() {
-        end = end.max(sections[s] + keyed.sections[s].size);
+    let mut end = keyed.start();
+    for s in 0..keyed.section_count() {
+        end = end.max(sections[s as usize] + keyed.section_size(s));
     }
     end
 }
@@ -190,11 +189,11 @@ fn stubs_end(keyed: &Keyed, far: &FarSet, stubs: &[u64]) -> u64
     requires room { length far.now ≡ key_count keyed.now }
     ensures { result ≡ stubs_end keyed.now (member far.now) (key_count keyed.now) }
 {
-    let mut end = keyed.start;
-    for k in 0..keyed.keys.len() {
-        let length = u64::from(size(keyed.keys[k].class, far.holds(k as u32)));
+    let mut end = keyed.start();
+    for k in 0..keyed.key_count() {
+        let length = keyed.stub_size(far, k);
         if length > 0 {
-            end = end.max(stubs[k] + length);
+            end = end.max(stubs[k as usize] + length);
         }
     }
     end

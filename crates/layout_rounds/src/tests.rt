@@ -92,27 +92,13 @@ fn shape_of(
     sound(shape)
 }
 
-/// How many keys a text has.
-fn key_count(keyed: &Keyed) -> u32
-    ensures { result ≡ length keyed.now.keys }
-{
-    keyed.keys.len() as u32
-}
-
-/// How many sections it has.
-fn section_count(keyed: &Keyed) -> u32
-    ensures { result ≡ length keyed.now.sections }
-{
-    keyed.sections.len() as u32
-}
-
 /// The set of these keys.
 fn far_set(alloc: Global, keyed: &Keyed, keys: &[u32]) -> Result<FarSet, Fail>
     ensures { IfOk result (λ set. length set ≡ length keyed.now.keys) }
 {
     let mut set = FarSet::none(alloc, keyed)?;
     for key in keys {
-        if *key >= key_count(keyed) {
+        if *key >= keyed.key_count() {
             return Err(Fail::new("no such key"));
         }
         set.add(*key);
@@ -126,10 +112,10 @@ fn text_of(alloc: Global, keyed: &Keyed, places: &Places) -> Result<String, Fail
     requires stubs { length places.now.stubs ≡ length keyed.now.keys }
 {
     let mut text = String::new(alloc);
-    for s in 0..section_count(keyed) {
+    for s in 0..keyed.section_count() {
         text.push_str(&format!(in alloc; "{:x} ", places.section_at(s))?)?;
     }
-    for k in 0..key_count(keyed) {
+    for k in 0..keyed.key_count() {
         text.push_str(&format!(in alloc; "stub {:x} ", places.stub_at(k))?)?;
     }
     text.push_str(&format!(in alloc; "end {:x}", places.end())?)?;

@@ -4,47 +4,46 @@ use Rattle.layout_rounds.specs.Shapes.{KeyedText}
 use Rattle.layout_rounds.specs.Layout.{group_count, key_at, size_upto, stub_bytes, group_start, address, area_start, section_address}
 use Rattle.layout_rounds.specs.Layout.{stub_address}
 
+-- these are the first n values of f
+pub record AreFirst (f : ℕ → ℕ) (n : ℕ) (xs : List ℕ) : Type 0 where
+  pub count : length xs ≡ n
+  pub each : (i : ℕ) → i < n → slice_index xs i ≡ f i
+
 -- how many bytes the first n sections take in each group
-pub record AreSizes (t : KeyedText) (n : ℕ) (sizes : List ℕ) : Type 0 where
-  pub count : length sizes ≡ group_count t
-  pub each : (g : ℕ) → g < group_count t → slice_index sizes g ≡ size_upto t g n
+abbrev pub AreSizes : KeyedText → ℕ → List ℕ → Type 0
+AreSizes t n sizes = AreFirst (λ g. size_upto t g n) (group_count t) sizes
 
--- how many bytes the stubs of the first n keys have in each area
-pub record AreBytes (t : KeyedText) (F : ℕ → Bool) (n : ℕ) (bytes : List ℕ) : Type 0 where
-  pub count : length bytes ≡ group_count t
-  pub each : (g : ℕ) → g < group_count t → slice_index bytes g ≡ stub_bytes t F g n
+module _ (t : KeyedText) (F : ℕ → Bool) where
+  -- how many bytes the stubs of the first n keys have in each area
+  abbrev pub AreBytes : ℕ → List ℕ → Type 0
+  AreBytes n bytes = AreFirst (λ g. stub_bytes t F g n) (group_count t) bytes
 
--- where the stubs of the first n keys begin in their areas
-pub record AreOffsets (t : KeyedText) (F : ℕ → Bool) (n : ℕ) (offsets : List ℕ) : Type 0 where
-  pub count : length offsets ≡ n
-  pub each : (k : ℕ) → k < n → slice_index offsets k ≡ stub_bytes t F (key_at t k).group k
+  -- where the stubs of the first n keys begin in their areas
+  abbrev pub AreOffsets : ℕ → List ℕ → Type 0
+  AreOffsets n offsets = AreFirst (λ k. stub_bytes t F (key_at t k).group k) n offsets
 
--- both
+  -- where the stub areas of the first n groups start
+  abbrev pub AreAreaStarts : ℕ → List ℕ → Type 0
+  AreAreaStarts n areas = AreFirst (λ g. address t F (area_start t g)) n areas
+
+  -- where the first n groups start
+  abbrev pub AreGroupStarts : ℕ → List ℕ → Type 0
+  AreGroupStarts n starts = AreFirst (group_start t F) n starts
+
+  -- the addresses of the first n sections
+  abbrev pub AreSections : ℕ → List ℕ → Type 0
+  AreSections n sections = AreFirst (section_address t F) n sections
+
+  -- the addresses of the stubs of the first n keys
+  abbrev pub AreStubs : ℕ → List ℕ → Type 0
+  AreStubs n stubs = AreFirst (stub_address t F) n stubs
+
+-- the stubs of the first n keys: where they begin in their areas, and how many bytes they have in each
 pub record AreAreas (t : KeyedText) (F : ℕ → Bool) (n : ℕ) (offsets bytes : List ℕ) : Type 0 where
   pub offsets_are : AreOffsets t F n offsets
   pub bytes_are : AreBytes t F n bytes
 
--- where the stub areas of the first n groups start
-pub record AreAreaStarts (t : KeyedText) (F : ℕ → Bool) (n : ℕ) (areas : List ℕ) : Type 0 where
-  pub count : length areas ≡ n
-  pub each : (g : ℕ) → g < n → slice_index areas g ≡ address t F (area_start t g)
-
--- where the first n groups start
-pub record AreGroupStarts (t : KeyedText) (F : ℕ → Bool) (n : ℕ) (starts : List ℕ) : Type 0 where
-  pub count : length starts ≡ n
-  pub each : (g : ℕ) → g < n → slice_index starts g ≡ group_start t F g
-
--- both, and where the last group ends
+-- where groups and their stub areas start, and where the last group ends
 pub record AreStarts (t : KeyedText) (F : ℕ → Bool) (starts areas : List ℕ) : Type 0 where
   pub starts_are : AreGroupStarts t F (group_count t + 1) starts
   pub areas_are : AreAreaStarts t F (group_count t) areas
-
--- the addresses of the first n sections
-pub record AreSections (t : KeyedText) (F : ℕ → Bool) (n : ℕ) (sections : List ℕ) : Type 0 where
-  pub count : length sections ≡ n
-  pub each : (s : ℕ) → s < n → slice_index sections s ≡ section_address t F s
-
--- the addresses of the stubs of the first n keys
-pub record AreStubs (t : KeyedText) (F : ℕ → Bool) (n : ℕ) (stubs : List ℕ) : Type 0 where
-  pub count : length stubs ≡ n
-  pub each : (k : ℕ) → k < n → slice_index stubs k ≡ stub_address t F k
