@@ -1,5 +1,5 @@
 -- The calls of the text that is made of a shape.
-use Rattle.std.proofs.Common.{ℕ, zero, suc, ◌≡◌, ◌<◌, ◌≤◌, inl, inr, List, length, slice_index, get_or, refl}
+use Rattle.std.proofs.Common.{ℕ, zero, suc, ◌≡◌, ◌<◌, inl, inr, List, length, slice_index, get_or, refl}
 use Rattle.std.proofs.Common.{ap, sym, ◌∙◌, subst, arith}
 use Rattle.std.specs.List.{position_or_len}
 use Rattle.std.proofs.lemmas.List.{get_or-map, length-map}
@@ -12,16 +12,8 @@ use Rattle.layout_rounds.specs.Shapes.{number_of, IsSound}
 use Rattle.layout_rounds.specs.Layout.{no_key, key_at}
 use Rattle.layout_rounds.specs.inside.Calls.{AreCalls}
 use Rattle.layout_rounds.proofs.KeyNumbers.{sorted_from_same}
-use Rattle.layout_rounds.proofs.KeysUpto.{with_long, with_kept, with_found, keys_sound}
-use Rattle.layout_rounds.proofs.Placements.{split}
-
--- there are no more keys than calls
-pub keys_few : (spots : List Spot) (sites : List ShapeSite) (n : ℕ) → length (keys_upto spots sites n) ≤ n
-keys_few spots sites zero = omega arith
-keys_few spots sites (suc n) =
-    let ih = keys_few spots sites n in
-    let long = with_long (keys_upto spots sites n) (key_of spots (site_of sites n)) in
-    omega (arith, ih, long.1)
+use Rattle.layout_rounds.proofs.KeysUpto.{keys_few, with_long, with_kept, with_found, keys_sound}
+use Rattle.layout_rounds.proofs.Pushed.{split}
 
 -- each call's key is one of them
 found_upto : (spots : List Spot) (sites : List ShapeSite) (j n : ℕ) →

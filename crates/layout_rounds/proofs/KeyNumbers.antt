@@ -18,6 +18,7 @@ use Rattle.stub_kinds.specs.declared.class.Class.TheVariants.{Same, Switch, Save
 use Rattle.stub_kinds.specs.declared.class.Key.{Key}
 use Rattle.layout_rounds.specs.Shapes.{same_class, same_key, with_key}
 use Rattle.layout_rounds.specs.inside.Seen.{rank_of, sorted_of, pair_cmp, sorted_cmp, AreNumbered}
+use Rattle.layout_rounds.proofs.Pushed.{pushed_length}
 
 pub known : (b : Bool) → (b ≡ true) ⊎ (b ≡ false)
 known true = inl refl
@@ -175,37 +176,32 @@ module _ (p : Key → Bool) where
         omega (arith, now, was, rest)
   ]
 
-  -- and where none was found, the new one is, if it passes
+  -- and where none was found, the first of those behind is
+  first_behind : (xs ys : List Key) →
+      position_or_len p xs ≡ length xs →
+      position_or_len p (xs ++ ys) ≡ length xs + position_or_len p ys
+  first_behind [] ys none = omega arith
+  first_behind (x ∷ xs) ys none = elim (known (p x)) [
+    | inl found ↦ absurd (let was = first_more true x xs found in omega (arith, was, none))
+    | inr out ↦
+        let now = first_more false x (xs ++ ys) out in
+        let was = first_more false x xs out in
+        let rest = first_behind xs ys (omega (arith, was, none)) in
+        omega (arith, now, rest)
+  ]
+
+  -- so a new one is last, if it passes
   pub first_new : (xs : List Key) (y : Key) →
       position_or_len p xs ≡ length xs →
       p y ≡ true →
       position_or_len p (xs ++ y ∷ []) ≡ length xs
-  first_new [] y none here = first_more true y [] here
-  first_new (x ∷ xs) y none here = elim (known (p x)) [
-    | inl found ↦ absurd (let was = first_more true x xs found in omega (arith, was, none))
-    | inr out ↦
-        let now = first_more false x (xs ++ y ∷ []) out in
-        let was = first_more false x xs out in
-        let rest = first_new xs y (omega (arith, was, none)) here in
-        omega (arith, now, rest)
-  ]
+  first_new xs y none here = omega (arith, first_behind xs (y ∷ []) none, first_more true y [] here)
 
   first_none : (xs : List Key) (y : Key) →
       position_or_len p xs ≡ length xs →
       p y ≡ false →
       position_or_len p (xs ++ y ∷ []) ≡ length xs + 1
-  first_none [] y none here = first_more false y [] here
-  first_none (x ∷ xs) y none here = elim (known (p x)) [
-    | inl found ↦ absurd (let was = first_more true x xs found in omega (arith, was, none))
-    | inr out ↦
-        let now = first_more false x (xs ++ y ∷ []) out in
-        let was = first_more false x xs out in
-        let rest = first_none xs y (omega (arith, was, none)) here in
-        omega (arith, now, rest)
-  ]
-
-  pub pushed_long : (xs : List Key) (y : Key) → length (xs ++ y ∷ []) ≡ length xs + 1
-  pushed_long xs y = grind (arith, common_steps)
+  first_none xs y none here = omega (arith, first_behind xs (y ∷ []) none, first_more false y [] here)
 
   any_none : (xs : List Key) → position_or_len p xs ≡ length xs → list_any p xs ≡ false
   any_none [] none = refl
@@ -255,16 +251,16 @@ module _ (p : Key → Bool) where
       position p (xs ++ y ∷ []) ≡ Some (length xs)
   pushed_here xs y none here =
       let at = first_new xs y (none_first xs none) here in
-      found_is (xs ++ y ∷ []) (omega (arith, at, pushed_long xs y)) ∙ ap Some at
+      found_is (xs ++ y ∷ []) (omega (arith, at, pushed_length xs y)) ∙ ap Some at
 
   pushed_other : (xs : List Key) (y : Key) → p y ≡ false → position p (xs ++ y ∷ []) ≡ position p xs
   pushed_other xs y other = elim (below (position_or_len p xs) (length xs)) [
     | inl lt ↦
         let at = first_kept xs y lt in
-        found_is (xs ++ y ∷ []) (omega (arith, at, lt, pushed_long xs y)) ∙ ap Some at ∙ sym (found_is xs lt)
+        found_is (xs ++ y ∷ []) (omega (arith, at, lt, pushed_length xs y)) ∙ ap Some at ∙ sym (found_is xs lt)
     | inr le ↦
         let at = first_none xs y (omega (arith, le, first_most xs)) other in
-        none_is (xs ++ y ∷ []) (omega (arith, at, pushed_long xs y)) ∙ sym (none_is xs le)
+        none_is (xs ++ y ∷ []) (omega (arith, at, pushed_length xs y)) ∙ sym (none_is xs le)
   ]
 
 -- ---- a map's answers

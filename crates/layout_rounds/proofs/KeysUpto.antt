@@ -1,8 +1,7 @@
 -- The keys of the calls so far, and their numbers.
-use Rattle.std.proofs.Common.{ℕ, zero, suc, ◌≡◌, ◌<◌, ◌≤◌, ◌+◌, ◌⊎◌, inl, inr, Bool, List, [], ◌∷◌, ◌++◌, length, map, get_or, slice_index}
+use Rattle.std.proofs.Common.{ℕ, zero, suc, ◌≡◌, ◌<◌, ◌≤◌, ◌+◌, ◌⊎◌, inl, inr, Bool, List, [], ◌∷◌, ◌++◌, length, map, get_or}
 use Rattle.std.proofs.Common.{ap, sym, ◌∙◌, refl, subst, arith, add-one, if◌then◌else◌}
 use Rattle.std.specs.List.{list_any, position_or_len}
-use Rattle.std.proofs.lemmas.Grind.{common_steps}
 use Rattle.std.proofs.lemmas.List.{get_or-map, length-map, ext_get_or}
 use Rattle.stub_kinds.specs.declared.class.Key.{Key}
 use Rattle.layout_rounds.specs.declared.shape.ShapeSection.{ShapeSection}
@@ -12,17 +11,18 @@ use Rattle.layout_rounds.specs.declared.grouping.Spot.{Spot}
 use Rattle.layout_rounds.specs.Shapes.{keyed_parts, spots_of, unit_upto, AreSound, site_of, no_site, key_of, same_key, with_key, keys_upto}
 use Rattle.layout_rounds.specs.Shapes.{keys_of, number_of, numbers_of, IsKeyIn, IsSound}
 use Rattle.stub_kinds.specs.declared.class.Class.TheVariants.{Same}
-use Rattle.layout_rounds.specs.inside.Texts.{IsKeyedWith, text_at}
-use Rattle.layout_rounds.proofs.KeyNumbers.{known, first_kept, first_new, with_old, with_new, same_itself, pushed_long, first_most}
-use Rattle.layout_rounds.proofs.Placements.{pushed_length, pushed_each, split}
+use Rattle.layout_rounds.specs.inside.Texts.{IsKeyedWith}
+use Rattle.layout_rounds.specs.inside.Placed.{AreFirst}
+use Rattle.layout_rounds.proofs.KeyNumbers.{known, first_kept, first_new, with_old, with_new, same_itself, first_most}
+use Rattle.layout_rounds.proofs.Pushed.{split, pushed_length, pushed_before, pushed_last}
+use Rattle.layout_rounds.proofs.Placements.{one_more}
 
 -- the keys of the first n calls, and the number of each call's key
 pub record AreKeyed (spots : List Spot) (sites : List ShapeSite) (n : ℕ) (keys : List Key) (numbers : List ℕ) :
     Type 0 where
   pub keys_are : keys ≡ keys_upto spots sites n
   pub few : length keys ≤ n
-  pub count : length numbers ≡ n
-  pub each : (j : ℕ) → j < n → slice_index numbers j ≡ position_or_len (same_key (key_of spots (site_of sites j))) keys
+  pub numbers_are : AreFirst (λ j. number_of spots keys (site_of sites j)) n numbers
   pub found : (j : ℕ) → j < n → position_or_len (same_key (key_of spots (site_of sites j))) keys < length keys
 
 with_either : (keys : List Key) (key : Key) → (with_key keys key ≡ keys) ⊎ (with_key keys key ≡ keys ++ key ∷ [])
@@ -39,7 +39,7 @@ pub with_long : (keys : List Key) (key : Key) →
 with_long keys key = elim (with_either keys key) [
   | inl e ↦ let long = long_as (with_key keys key) keys e in (omega (arith, long), omega (arith, long))
   | inr e ↦ let long = long_as (with_key keys key) (keys ++ key ∷ []) e in
-      let more = pushed_long (same_key key) keys key in
+      let more = pushed_length keys key in
       (omega (arith, long, more), omega (arith, long, more))
 ]
 
@@ -61,7 +61,7 @@ with_found keys key = elim (below_or (position_or_len (same_key key) keys) (leng
       | inl lt ↦ subst (λ (zs : List Key). position_or_len (same_key key) zs < length zs) (sym (with_old keys key lt)) lt
       | inr none ↦ subst (λ (zs : List Key). position_or_len (same_key key) zs < length zs) (sym (with_new keys key none))
           (let at = first_new (same_key key) keys key none (same_itself key) in
-          let more = pushed_long (same_key key) keys key in
+          let more = pushed_length keys key in
           omega (arith, at, more))
     ]
 
@@ -98,11 +98,10 @@ keyed_more spots sites n keys keys_new numbers numbers_new key number so_far key
           ∙ ap (λ (x : Key). with_key (keys_upto spots sites n) x) key_is
           ∙ sym (keys_next spots sites n);
       few = omega (arith, long.1, new_long, so_far.few);
-      count = ap (λ (zs : List ℕ). length zs) more ∙ pushed_length numbers number n so_far.count;
-      each = λ j lt. ap (λ (zs : List ℕ). slice_index zs j) more
-          ∙ pushed_each (λ i. position_or_len (same_key (key_of spots (site_of sites i))) keys_new) numbers number
-          n j so_far.count
-          (λ i below. so_far.each i below ∙ sym (kept i below)) last lt;
+      numbers_are = one_more (λ j. number_of spots keys_new (site_of sites j)) n numbers numbers_new number (record {
+        count = so_far.numbers_are.count;
+        each = λ j lt. so_far.numbers_are.each j lt ∙ sym (kept j lt);
+      }) more last;
       found = λ j lt. elim (split j n lt) [
         | inl below ↦ let e = kept j below in omega (arith, e, so_far.found j below, long.0, new_long)
         | inr same ↦ subst (λ (i : ℕ). position_or_len (same_key (key_of spots (site_of sites i))) keys_new <
@@ -111,23 +110,24 @@ keyed_more spots sites n keys keys_new numbers numbers_new key number so_far key
     }
 
 -- the numbers of all calls
-pub numbers_are : (spots : List Spot) (sites : List ShapeSite) (keys : List Key) (numbers : List ℕ) →
-    AreKeyed spots sites (length sites) keys numbers →
-    numbers ≡ numbers_of spots (keys_of spots sites) sites
-numbers_are spots sites keys numbers all =
+pub numbers_all : (spots : List Spot) (sites : List ShapeSite) (keys : List Key) (numbers : List ℕ) →
+    AreFirst (λ j. number_of spots keys (site_of sites j)) (length sites) numbers →
+    numbers ≡ numbers_of spots keys sites
+numbers_all spots sites keys numbers all =
     ext_get_or 0 numbers (map (number_of spots keys) sites)
     (all.count ∙ sym (length-map sites (number_of spots keys)))
     (λ j lt. let within : j < length sites = omega (arith, lt, all.count) in
     all.each j within ∙ sym (get_or-map (number_of spots keys) sites j no_site 0 within))
-    ∙ ap (λ (zs : List Key). numbers_of spots zs sites) all.keys_are
+
+-- there are no more keys than calls
+pub keys_few : (spots : List Spot) (sites : List ShapeSite) (n : ℕ) → length (keys_upto spots sites n) ≤ n
+keys_few spots sites zero = omega arith
+keys_few spots sites (suc n) =
+    let ih = keys_few spots sites n in
+    let long = with_long (keys_upto spots sites n) (key_of spots (site_of sites n)) in
+    omega (arith, ih, long.1)
 
 -- ---- each key is one of a call
-
-key_before : (keys : List Key) (key d : Key) (k : ℕ) → k < length keys → get_or (keys ++ key ∷ []) k d ≡ get_or keys k d
-key_before keys key d k lt = grind (arith, common_steps)
-
-key_last : (keys : List Key) (key d : Key) → get_or (keys ++ key ∷ []) (length keys) d ≡ key
-key_last keys key d = grind (arith, common_steps)
 
 with_all : (P : Key → Type 0) (keys : List Key) (key d : Key) →
     ((k : ℕ) → k < length keys → P (get_or keys k d)) →
@@ -138,11 +138,11 @@ with_all P keys key d before last k lt = elim (with_either keys key) [
       (let long = long_as (with_key keys key) keys e in before k (omega (arith, lt, long)))
   | inr e ↦ subst (λ (zs : List Key). P (get_or zs k d)) (sym e)
       (let long = long_as (with_key keys key) (keys ++ key ∷ []) e in
-      let more = pushed_long (same_key key) keys key in
+      let more = pushed_length keys key in
       elim (split k (length keys) (omega (arith, lt, long, more))) [
-        | inl below ↦ subst P (sym (key_before keys key d k below)) (before k below)
+        | inl below ↦ subst P (sym (pushed_before keys key d k below)) (before k below)
         | inr same ↦ subst (λ (i : ℕ). P (get_or (keys ++ key ∷ []) i d)) (sym same)
-            (subst P (sym (key_last keys key d)) last)
+            (subst P (sym (pushed_last keys key d (length keys) refl)) last)
       ])
 ]
 
@@ -182,30 +182,21 @@ pub text_keyed : (shape : Shape) (reach u : ℕ) (sections : List ShapeSection) 
     IsSound shape →
     sections ≡ shape.sections.items →
     spots ≡ spots_of shape.sections.items reach →
-    AreKeyed spots shape.sites.items (length shape.sites.items) keys numbers →
+    keys ≡ keys_of spots shape.sites.items →
     u ≡ unit_upto shape.sections.items (length shape.sections.items) →
     IsKeyedWith (keyed_parts shape.start reach sections spots keys numbers) u
-text_keyed shape reach u sections spots keys numbers sound sections_are spots_are all unit_is = record {
+text_keyed shape reach u sections spots keys numbers sound sections_are spots_are keys_are unit_is = record {
   keyed = record {
     start_whole = sound.start_whole;
     start_low = sound.start_low;
     sections = subst AreSound (sym sections_are) sound.sections;
     spots = spots_are ∙ ap (λ (xs : List ShapeSection). spots_of xs reach) (sym sections_are);
-    few_keys = omega (arith, all.few, sound.few_sites);
+    few_keys =
+        let long = long_as keys (keys_of spots shape.sites.items) keys_are in
+        let few = keys_few spots shape.sites.items (length shape.sites.items) in
+        omega (arith, long, few, sound.few_sites);
     keys = keys_in shape sections spots keys (record { group = 0; class = Same; section = 0; offset = 0 }) sound
-        sections_are all.keys_are;
+        sections_are keys_are;
   };
   unit_is = unit_is ∙ ap (λ (xs : List ShapeSection). unit_upto xs (length xs)) (sym sections_are);
 }
-
-pub text_is : (shape : Shape) (reach : ℕ) (sections : List ShapeSection) (spots : List Spot) (keys : List Key)
-    (numbers : List ℕ) →
-    sections ≡ shape.sections.items →
-    AreKeyed spots shape.sites.items (length shape.sites.items) keys numbers →
-    keyed_parts shape.start reach sections spots keys numbers ≡ text_at shape reach spots
-text_is shape reach sections spots keys numbers sections_are all =
-    ap (λ (xs : List ShapeSection). keyed_parts shape.start reach xs spots keys numbers) sections_are
-    ∙ ap (λ (zs : List Key). keyed_parts shape.start reach shape.sections.items spots zs numbers) all.keys_are
-    ∙ ap (λ (ns : List ℕ). keyed_parts shape.start reach shape.sections.items spots
-    (keys_of spots shape.sites.items) ns)
-    (numbers_are spots shape.sites.items keys numbers all)

@@ -2,6 +2,7 @@ pub mod Aligned
 pub mod Spots
 pub mod Totals
 pub mod Bounds
+pub mod Pushed
 pub mod Read
 pub mod Placements
 pub mod KeyNumbers

@@ -1,40 +1,18 @@
 -- One more step of each loop of a placement.
-use Rattle.std.proofs.Common.{ℕ, ◌≡◌, ◌<◌, ◌+◌, ◌⊎◌, inl, inr, Bool, List, [], ◌∷◌, ◌++◌, length, sym, ◌∙◌, subst, arith, rules}
+use Rattle.std.proofs.Common.{ℕ, ◌≡◌, ◌<◌, ◌+◌, inl, inr, Bool, List, [], ◌∷◌, ◌++◌, length, sym, ◌∙◌, subst, arith, rules}
 use Rattle.std.proofs.Common.{refl, add-one, if◌then◌else◌, ◌==◌, slice_index, set}
 use Rattle.std.proofs.lemmas.Bool.Decides.{nat_tests}
 use Rattle.std.proofs.lemmas.Grind.{common_steps}
 use Rattle.layout_rounds.specs.Shapes.{KeyedText}
 use Rattle.layout_rounds.specs.Layout.{key_at, stub_size, stub_bytes, group_start}
 use Rattle.layout_rounds.specs.inside.Placed.{AreFirst, AreBytes, AreGroupStarts, AreAreaStarts}
+use Rattle.layout_rounds.proofs.Pushed.{split, pushed_length, pushed_before, pushed_last}
 
 -- the starts of the first groups, and where the next one starts
 pub record AreStartsUpto (t : KeyedText) (F : ℕ → Bool) (n : ℕ) (starts areas : List ℕ) (top : ℕ) : Type 0 where
   pub starts_are : AreGroupStarts t F n starts
   pub areas_are : AreAreaStarts t F n areas
   pub top_is : top ≡ group_start t F n
-
-pub split : (i n : ℕ) → i < n + 1 → (i < n) ⊎ (i ≡ n)
-split i n lt = grind arith
-
-pub pushed_length : (xs : List ℕ) (x n : ℕ) → length xs ≡ n → length (xs ++ x ∷ []) ≡ n + 1
-pushed_length xs x n long = grind (arith, common_steps)
-
-pushed_before : (xs : List ℕ) (x n i : ℕ) → length xs ≡ n → i < n → slice_index (xs ++ x ∷ []) i ≡ slice_index xs i
-pushed_before xs x n i long lt = grind (arith, common_steps)
-
-pushed_last : (xs : List ℕ) (x n : ℕ) → length xs ≡ n → slice_index (xs ++ x ∷ []) n ≡ x
-pushed_last xs x n long = grind (arith, common_steps)
-
-pub pushed_each : (f : ℕ → ℕ) (xs : List ℕ) (x n i : ℕ) →
-    length xs ≡ n →
-    ((j : ℕ) → j < n → slice_index xs j ≡ f j) →
-    x ≡ f n →
-    i < n + 1 →
-    slice_index (xs ++ x ∷ []) i ≡ f i
-pushed_each f xs x n i long each is lt = elim (split i n lt) [
-  | inl before ↦ pushed_before xs x n i long before ∙ each i before
-  | inr same ↦ subst (λ (j : ℕ). slice_index (xs ++ x ∷ []) j ≡ f j) (sym same) (pushed_last xs x n long ∙ is)
-]
 
 -- a list with one more at its end is right up to n + 1
 pub one_more : (f : ℕ → ℕ) (n : ℕ) (xs ys : List ℕ) (x : ℕ) →
@@ -43,8 +21,12 @@ pub one_more : (f : ℕ → ℕ) (n : ℕ) (xs ys : List ℕ) (x : ℕ) →
     x ≡ f n →
     AreFirst f (n + 1) ys
 one_more f n xs ys x so_far more is = subst (AreFirst f (n + 1)) (sym more) (record {
-  count = pushed_length xs x n so_far.count;
-  each = λ i lt. pushed_each f xs x n i so_far.count so_far.each is lt;
+  count = omega (arith, pushed_length xs x, so_far.count);
+  each = λ i lt. elim (split i n lt) [
+    | inl before ↦ pushed_before xs x 0 i (omega (arith, before, so_far.count)) ∙ so_far.each i before
+    | inr same ↦ subst (λ (j : ℕ). slice_index (xs ++ x ∷ []) j ≡ f j) (sym same)
+        (pushed_last xs x 0 n (sym so_far.count) ∙ is)
+  ];
 })
 
 module _ (t : KeyedText) (F : ℕ → Bool) where

@@ -1,7 +1,7 @@
 // Call keys: what calls have in common that share a stub.
 ghost use Rattle.std.specs.Prelude.{◌≡◌, ◌+◌, ◌-◌, ◌<◌, ◌^◌, ℕ, Bool, length, [], IfOk, OnOk};
 ghost use Rattle.layout_rounds.specs.FarSets.{member};
-ghost use Rattle.layout_rounds.specs.Shapes.{key_of, same_key, spots_of, with_key, IsSound};
+ghost use Rattle.layout_rounds.specs.Shapes.{key_of, keys_of, numbers_of, same_key, site_of, spots_of, with_key, IsSound};
 ghost use Rattle.layout_rounds.specs.Layout.{address, area, area_start, group_at, group_count, key_at, key_count, offset_at};
 ghost use Rattle.layout_rounds.specs.Layout.{padded, section_address, section_count, section_size, stub_address, stub_size};
 ghost use Rattle.std.specs.List.{position_or_len};
@@ -212,7 +212,34 @@ impl Seen {
     }
 }
 
-/// The text with its keys, in order of their first calls.
+/// The keys of calls, in order of their first calls, and the number of each call's key.
+#[derive(Drop)]
+struct CallKeys {
+    keys: Vec<Key>,
+    numbers: Vec<u32>,
+}
+
+fn call_keys(alloc: Global, spots: &[Spot], sites: &[ShapeSite]) -> Result<CallKeys, Memory>
+    requires few { length sites.now < 2 ^ 32 }
+    requires from { (i : ℕ) → i < length sites.now →
+        (site_of sites.now i).section < length spots.now }
+    ensures keys { IfOk result (λ calls. calls.keys.items ≡ keys_of spots.now sites.now) }
+    ensures numbers { IfOk result (λ calls.
+        calls.numbers.items ≡ numbers_of spots.now calls.keys.items sites.now) }
+{
+    let mut seen = Seen::none(alloc);
+    let mut numbers = Vec::new(alloc);
+    for site in sites {
+        let number = seen.number(key_of(spots, *site))?;
+        numbers.push(number)?;
+    }
+    Ok(CallKeys {
+        keys: seen.keys,
+        numbers,
+    })
+}
+
+/// The text with its keys.
 pub(crate) fn key_text(
     alloc: Global,
     shape: &Shape,
@@ -224,19 +251,14 @@ pub(crate) fn key_text(
     requires spots { spots.items ≡ spots_of shape.now.sections.items reach }
     ensures { IfOk result (λ keyed. keyed ≡ text_at shape.now reach spots.items) }
 {
-    let mut seen = Seen::none(alloc);
-    let mut numbers = Vec::new(alloc);
-    for site in shape.sites.iter() {
-        let number = seen.number(key_of(&spots, *site))?;
-        numbers.push(number)?;
-    }
+    let calls = call_keys(alloc, spots.as_slice(), shape.sites.as_slice())?;
     Ok(Keyed {
         start: shape.start,
         reach,
         unit: unit_of(shape.sections.as_slice()),
         sections: Vec::from_slice(alloc, shape.sections.as_slice())?,
         spots,
-        keys: seen.keys,
-        numbers,
+        keys: calls.keys,
+        numbers: calls.numbers,
     })
 }

@@ -1,6 +1,0 @@
-use Rattle.layout_rounds.proofs.keys.key_text.Given as goal
-use Rattle.layout_rounds.proofs.KeysUpto.{AreKeyed}
-
--- the keys and the numbers of the calls so far
-abbrev pub invariant-loop-site : goal.invariant-loop-site
-invariant-loop-site l = AreKeyed l.spots.items l.shape.sites.items l.site-index l.seen l.numbers.items
