@@ -26,35 +26,28 @@ bounds-spots-s c =
     length-map-range_with_len (spot_at c.args.sections.now c.args.reach) 0 c.args.s in
     omega (arith, long, c.if-s-eq0.false)
 
-pub next_spot-requires-clause-group : goal.next_spot-requires-clause-group
-next_spot-requires-clause-group c =
-    let sections = c.args.sections.now in
-    let s = c.args.s in
-    let before = spot_before sections c.args.reach c.args.spots.now s (record { group = 0; offset = 0 })
-    c.requires.spots (omega (arith, c.if-s-eq0.false)) in
-    let group = ap (λ (x : Spot). x.group) before in
-    let most = group_most sections c.args.reach c.requires.sound (s - 1) (omega (arith, c.requires.within)) in
-    omega (arith, group, most, c.requires.within, c.requires.sound.few)
-
-pub next_spot-requires-clause-room : goal.next_spot-requires-clause-room
-next_spot-requires-clause-room c =
+pub next_spot-requires : goal.next_spot-requires
+next_spot-requires c =
     let sections = c.args.sections.now in
     let s = c.args.s in
     let within : s - 1 < length sections = omega (arith, c.requires.within) in
     let before = spot_before sections c.args.reach c.args.spots.now s (record { group = 0; offset = 0 })
     c.requires.spots (omega (arith, c.if-s-eq0.false)) in
-    let offset = ap (λ (x : Spot). x.offset) before in
-    let most = offset_most sections c.args.reach c.requires.sound (s - 1) within in
     let size = ap (λ (x : ShapeSection). x.size)
     (get_or_default sections (s - 1) (record { size = 0; align = 0; toc = 0 }) no_section within) in
-    omega (arith, offset, most, size, (c.requires.sound.each (s - 1) within).size, within, c.requires.sound.few)
-
-pub next_spot-requires-clause-sound : goal.next_spot-requires-clause-sound
-next_spot-requires-clause-sound c =
-    let sections = c.args.sections.now in
-    subst IsSoundSection (sym
-    (get_or_default sections c.args.s (record { size = 0; align = 0; toc = 0 }) no_section c.requires.within))
-    (c.requires.sound.each c.args.s c.requires.within)
+    record {
+      group =
+          let group = ap (λ (x : Spot). x.group) before in
+          let most = group_most sections c.args.reach c.requires.sound (s - 1) within in
+          omega (arith, group, most, c.requires.within, c.requires.sound.few);
+      room =
+          let offset = ap (λ (x : Spot). x.offset) before in
+          let most = offset_most sections c.args.reach c.requires.sound (s - 1) within in
+          omega (arith, offset, most, size, (c.requires.sound.each (s - 1) within).size, within, c.requires.sound.few);
+      sound = subst IsSoundSection (sym
+          (get_or_default sections s (record { size = 0; align = 0; toc = 0 }) no_section c.requires.within))
+          (c.requires.sound.each s c.requires.within);
+    }
 
 pub returns-else-s-eq0 : goal.returns-else-s-eq0
 returns-else-s-eq0 c =

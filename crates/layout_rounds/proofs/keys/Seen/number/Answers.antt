@@ -17,37 +17,28 @@ invariant_of-self-in-Ok c =
     (omega (arith, c.len-number.ensures, c.self.inside.keys.ok.0)) in
     λ q. more q ∙ ap (λ (xs : List Key). position (same_key q) xs) (sym c.in_ok-push-in-None.ensures.items)
 
-pub returns-in-Some-clause-keys : goal.returns-in-Some-clause-keys
-returns-in-Some-clause-keys c =
+pub returns-in-Some : goal.returns-in-Some
+returns-in-Some c =
     let keys = c.self.inside.keys.items in
     let some = looked_up keys c.self.inside.numbers c.args.key c.rank.result (Some c.in-Some.number)
     c.self.invariant c.rank.ensures (c.in-Some.ensures ∙ c.get.ensures.value) in
-    subst (λ (xs : List Key). xs ≡ with_key xs c.args.key) c.self.view_is
-    (sym (with_old keys c.args.key (some_first (same_key c.args.key) keys c.in-Some.number some).1))
+    let first = some_first (same_key c.args.key) keys c.in-Some.number some in
+    record {
+      keys = subst (λ (xs : List Key). xs ≡ with_key xs c.args.key) c.self.view_is
+          (sym (with_old keys c.args.key first.1));
+      number = subst (λ (xs : List Key). c.in-Some.number ≡ position_or_len (same_key c.args.key) xs) c.self.view_is
+          first.0;
+    }
 
-pub returns-in-Some-clause-number : goal.returns-in-Some-clause-number
-returns-in-Some-clause-number c =
+pub returns-in-Ok : goal.returns-in-Ok
+returns-in-Ok c =
     let keys = c.self.inside.keys.items in
-    let some = looked_up keys c.self.inside.numbers c.args.key c.rank.result (Some c.in-Some.number)
-    c.self.invariant c.rank.ensures (c.in-Some.ensures ∙ c.get.ensures.value) in
-    subst (λ (xs : List Key). c.in-Some.number ≡ position_or_len (same_key c.args.key) xs) c.self.view_is
-    (some_first (same_key c.args.key) keys c.in-Some.number some).0
-
-pub returns-in-Ok-clause-keys : goal.returns-in-Ok-clause-keys
-returns-in-Ok-clause-keys c =
-    let keys = c.self.inside.keys.items in
-    let none = looked_up keys c.self.inside.numbers c.args.key c.rank.result None c.self.invariant c.rank.ensures
-    (c.in-None.ensures ∙ c.get.ensures.value) in
-    c.in_ok-push-in-None.ensures.items
-    ∙ sym (with_new keys c.args.key (none_first (same_key c.args.key) keys none))
-    ∙ ap (λ (xs : List Key). with_key xs c.args.key) c.self.view_is
-
-pub returns-in-Ok-clause-number : goal.returns-in-Ok-clause-number
-returns-in-Ok-clause-number c =
-    let keys = c.self.inside.keys.items in
-    let none = looked_up keys c.self.inside.numbers c.args.key c.rank.result None c.self.invariant c.rank.ensures
-    (c.in-None.ensures ∙ c.get.ensures.value) in
-    let at = first_new (same_key c.args.key) keys c.args.key (none_first (same_key c.args.key) keys none)
-    (same_itself c.args.key) in
+    let none = none_first (same_key c.args.key) keys (looked_up keys c.self.inside.numbers c.args.key c.rank.result None
+    c.self.invariant c.rank.ensures (c.in-None.ensures ∙ c.get.ensures.value)) in
+    let at = first_new (same_key c.args.key) keys c.args.key none (same_itself c.args.key) in
     let here = ap (λ (xs : List Key). position_or_len (same_key c.args.key) xs) c.in_ok-push-in-None.ensures.items in
-    omega (arith, at, here, c.len-number.ensures, c.self.inside.keys.ok.0)
+    record {
+      keys = c.in_ok-push-in-None.ensures.items ∙ sym (with_new keys c.args.key none)
+          ∙ ap (λ (xs : List Key). with_key xs c.args.key) c.self.view_is;
+      number = omega (arith, at, here, c.len-number.ensures, c.self.inside.keys.ok.0);
+    }
