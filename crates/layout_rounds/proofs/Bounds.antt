@@ -92,10 +92,10 @@ module _ (t : KeyedText) (keyed : IsKeyed t) where
       ap (λ (xs : List Spot). spot_of xs s) keyed.spots
       ∙ get_or-map-range_with_len (spot_at t.sections t.reach) 0 (section_count t) s s _ lt (omega arith)
 
-  at_group : (s : ℕ) → s < section_count t → group_at t s ≡ (spot_at t.sections t.reach s).group
+  pub at_group : (s : ℕ) → s < section_count t → group_at t s ≡ (spot_at t.sections t.reach s).group
   at_group s lt = ap (λ (x : Spot). x.group) (at_spot s lt)
 
-  at_offset : (s : ℕ) → s < section_count t → offset_at t s ≡ (spot_at t.sections t.reach s).offset
+  pub at_offset : (s : ℕ) → s < section_count t → offset_at t s ≡ (spot_at t.sections t.reach s).offset
   at_offset s lt = ap (λ (x : Spot). x.offset) (at_spot s lt)
 
   size_small : (s : ℕ) → s < section_count t → section_size t s < 0x100000000
@@ -127,6 +127,13 @@ module _ (t : KeyedText) (keyed : IsKeyed t) where
   -- a section ends in its group
   pub ends_within : (g s : ℕ) → group_at t s ≡ g → offset_at t s + section_size t s ≤ size_upto t g (suc s)
   ends_within g s same = let e = if_same (group_at t s) g (offset_at t s + section_size t s) same in omega (arith, e)
+
+  -- a group has few bytes
+  pub size_most_upto : (g n : ℕ) → n ≤ section_count t → size_upto t g n ≤ n * 0x100010000
+  size_most_upto g zero le = omega arith
+  size_most_upto g (suc n) le =
+      let most = if_most (group_at t n) g (offset_at t n + section_size t n) in
+      omega (arith, most, offset_small n (omega (arith, le)), size_most_upto g n (omega (arith, le)))
 
   -- the group has no bytes less far before it than that
   ends_near : (s : ℕ) →
@@ -205,7 +212,7 @@ module _ (t : KeyedText) (keyed : IsKeyed t) where
         omega (arith, start_most g, sections_padded, stubs_padded, unit_small)
 
     -- groups start below 2^61
-    start_small : (g : ℕ) → g ≤ group_count t → group_start t F g < 2 ^ 61
+    pub start_small : (g : ℕ) → g ≤ group_count t → group_start t F g < 2 ^ 61
     start_small g le = omega (
       arith,
       start_most g,

@@ -7,16 +7,16 @@ use Rattle.std.proofs.lemmas.List.Sums.{passes_at_first}
 use Rattle.layout_rounds.specs.declared.shape.Shape.{Shape}
 use Rattle.layout_rounds.specs.declared.shape.ShapeSite.{ShapeSite}
 use Rattle.layout_rounds.specs.declared.grouping.Spot.{Spot}
-use Rattle.layout_rounds.specs.Shapes.{keyed_text, site_of, no_site, key_of, same_key, keys_upto, keys_of, with_key}
+use Rattle.layout_rounds.specs.Shapes.{KeyedText, keyed_text, site_of, no_site, key_of, same_key, keys_upto, keys_of, with_key}
 use Rattle.layout_rounds.specs.Shapes.{number_of, IsSound}
 use Rattle.layout_rounds.specs.Layout.{no_key, key_at}
 use Rattle.layout_rounds.specs.inside.Calls.{AreCalls}
 use Rattle.layout_rounds.proofs.KeyNumbers.{sorted_from_same}
 use Rattle.layout_rounds.proofs.KeysUpto.{keys_few, with_long, with_kept, with_found, keys_sound}
-use Rattle.layout_rounds.proofs.Pushed.{split}
+use Rattle.layout_rounds.proofs.Cases.{split}
 
 -- each call's key is one of them
-found_upto : (spots : List Spot) (sites : List ShapeSite) (j n : ℕ) →
+pub found_upto : (spots : List Spot) (sites : List ShapeSite) (j n : ℕ) →
     j < n →
     position_or_len (same_key (key_of spots (site_of sites j))) (keys_upto spots sites n) < length (keys_upto spots sites n)
 found_upto spots sites j zero lt = absurd (omega (arith, lt))
@@ -63,3 +63,11 @@ are_calls shape span sound =
           (get_or keys (number_of t.spots keys (site_of sites i)) (no_key t))
           (passes_at_first (same_key (key_of t.spots (site_of sites i))) keys (no_key t) (found i lt))));
     }
+
+-- those of a text that is known to be that one
+pub calls_at : (shape : Shape) (span : ℕ) (t : KeyedText) →
+    IsSound shape →
+    t ≡ keyed_text shape span →
+    AreCalls t shape.sites.items
+calls_at shape span t sound is =
+    subst (λ (x : KeyedText). AreCalls x shape.sites.items) (sym is) (are_calls shape span sound)

@@ -1,5 +1,5 @@
 -- What stands between two places grows with the set of far keys.
-use Rattle.std.proofs.Common.{ℕ, zero, suc, ◌≡◌, ◌<◌, ◌≤◌, ◌+◌, ◌-◌, ◌/◌, ◌⊎◌, inl, inr, Bool, true, false, refl, subst, arith}
+use Rattle.std.proofs.Common.{ℕ, zero, suc, ◌≡◌, ◌<◌, ◌≤◌, ◌+◌, ◌-◌, ◌/◌, inl, inr, Bool, true, false, refl, subst, arith}
 use Rattle.std.proofs.Common.{if◌then◌else◌, ◌==◌}
 use Rattle.std.proofs.lemmas.Bool.Decides.{nat_tests}
 use Rattle.std.proofs.Math.Nat.{div-mul-le_self, le-div_iff_mul-le, mul-le-mul_right}
@@ -11,6 +11,7 @@ use Rattle.layout_rounds.specs.Shapes.{KeyedText, aligned, IsInText}
 use Rattle.layout_rounds.specs.Layout.{section_count, key_count, key_at, section_size, group_at, offset_at, unit, padded, size_upto}
 use Rattle.layout_rounds.specs.Layout.{group_size, stub_size, stub_bytes, area, group_start, IsKeyed}
 use Rattle.layout_rounds.proofs.Bounds.{unit_some, padded_least, ends_within}
+use Rattle.layout_rounds.proofs.Cases.{below_or_last, upto_or_next}
 
 size_grows : (class : Class) (f g : Bool) → (f ≡ true → g ≡ true) → size_of class f ≤ size_of class g
 size_grows Same false g sub = omega arith
@@ -38,19 +39,13 @@ aligned_grows m n u some le =
     {k = u} {x = (m + (u - 1)) / u} {y = n + (u - 1)} some).1 (omega (arith, self, le)) in
     mul-le-mul_right u quotient
 
-pub split_le : (t s : ℕ) → t ≤ suc s → (t ≤ s) ⊎ (t ≡ suc s)
-split_le t s le = grind arith
-
-split_lt : (t s : ℕ) → t < suc s → (t < s) ⊎ (t ≡ s)
-split_lt t s lt = grind arith
-
 module _ (t : KeyedText) (keyed : IsKeyed t) where
   padded_grows : (m n : ℕ) → m ≤ n → padded t m ≤ padded t n
   padded_grows m n le = aligned_grows m n (unit t) (unit_some t keyed) le
 
   section_within : (s n : ℕ) → s < n → offset_at t s + section_size t s ≤ size_upto t (group_at t s) n
   section_within s zero lt = absurd (omega (arith, lt))
-  section_within s (suc n) lt = elim (split_lt s n lt) [
+  section_within s (suc n) lt = elim (below_or_last s n lt) [
     | inl below ↦ let ih = section_within s n below in omega (arith, ih)
     | inr same ↦ subst (λ (i : ℕ). offset_at t s + section_size t s ≤ size_upto t (group_at t s) (suc i)) same
         (ends_within t keyed (group_at t s) s refl)
@@ -70,7 +65,7 @@ module _ (t : KeyedText) (keyed : IsKeyed t) where
       a < b →
       group_start t F a + padded t (group_size t a) ≤ group_start t F b
   start_after F a zero lt = absurd (omega (arith, lt))
-  start_after F a (suc b) lt = elim (split_lt a b lt) [
+  start_after F a (suc b) lt = elim (below_or_last a b lt) [
     | inl below ↦ let ih = start_after F a b below in omega (arith, ih)
     | inr same ↦ rw same (omega arith)
   ]
@@ -94,7 +89,7 @@ module _ (t : KeyedText) (keyed : IsKeyed t) where
         a ≤ b →
         group_start t F b + group_start t G a ≤ group_start t G b + group_start t F a
     between_grows a zero le = let e : a ≡ 0 = omega (arith, le) in rw e (omega arith)
-    between_grows a (suc b) le = elim (split_le a b le) [
+    between_grows a (suc b) le = elim (upto_or_next a b le) [
       | inl below ↦ let ih = between_grows a b below in omega (arith, ih, area_grows b)
       | inr same ↦ rw same (omega arith)
     ]

@@ -14,7 +14,8 @@ use Rattle.stub_kinds.specs.declared.class.Class.TheVariants.{Same}
 use Rattle.layout_rounds.specs.inside.Texts.{IsKeyedWith}
 use Rattle.layout_rounds.specs.inside.Placed.{AreFirst}
 use Rattle.layout_rounds.proofs.KeyNumbers.{known, first_kept, first_new, with_old, with_new, same_itself, first_most}
-use Rattle.layout_rounds.proofs.Pushed.{split, pushed_length, pushed_before, pushed_last}
+use Rattle.layout_rounds.proofs.Cases.{below_or_same, split}
+use Rattle.layout_rounds.proofs.Pushed.{pushed_length, pushed_before, pushed_last}
 use Rattle.layout_rounds.proofs.Placements.{one_more}
 
 -- the keys of the first n calls, and the number of each call's key
@@ -51,12 +52,9 @@ with_kept p keys key lt = elim (with_either keys key) [
   | inr e ↦ ap (λ (zs : List Key). position_or_len p zs) e ∙ first_kept p keys key lt
 ]
 
-below_or : (a b : ℕ) → a ≤ b → (a < b) ⊎ (a ≡ b)
-below_or a b le = grind arith
-
 pub with_found : (keys : List Key) (key : Key) →
     position_or_len (same_key key) (with_key keys key) < length (with_key keys key)
-with_found keys key = elim (below_or (position_or_len (same_key key) keys) (length keys)
+with_found keys key = elim (below_or_same (position_or_len (same_key key) keys) (length keys)
     (first_most (same_key key) keys)) [
       | inl lt ↦ subst (λ (zs : List Key). position_or_len (same_key key) zs < length zs) (sym (with_old keys key lt)) lt
       | inr none ↦ subst (λ (zs : List Key). position_or_len (same_key key) zs < length zs) (sym (with_new keys key none))

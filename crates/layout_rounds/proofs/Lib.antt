@@ -1,3 +1,4 @@
+pub mod Cases
 pub mod Aligned
 pub mod Spots
 pub mod Totals
@@ -11,3 +12,9 @@ pub mod Counting
 pub mod Growth
 pub mod Shrinking
 pub mod Called
+pub mod CallEnds
+pub mod WaysStand
+pub mod RoundSteps
+pub mod FarLayouts
+pub mod StubsOut
+pub mod FarSetExists

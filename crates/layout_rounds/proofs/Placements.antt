@@ -6,7 +6,8 @@ use Rattle.std.proofs.lemmas.Grind.{common_steps}
 use Rattle.layout_rounds.specs.Shapes.{KeyedText}
 use Rattle.layout_rounds.specs.Layout.{key_at, stub_size, stub_bytes, group_start}
 use Rattle.layout_rounds.specs.inside.Placed.{AreFirst, AreBytes, AreGroupStarts, AreAreaStarts}
-use Rattle.layout_rounds.proofs.Pushed.{split, pushed_length, pushed_before, pushed_last}
+use Rattle.layout_rounds.proofs.Cases.{split}
+use Rattle.layout_rounds.proofs.Pushed.{pushed_length, pushed_before, pushed_last}
 
 -- the starts of the first groups, and where the next one starts
 pub record AreStartsUpto (t : KeyedText) (F : ℕ → Bool) (n : ℕ) (starts areas : List ℕ) (top : ℕ) : Type 0 where

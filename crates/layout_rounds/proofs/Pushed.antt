@@ -1,10 +1,6 @@
 -- Lists with one more at their end.
-use Rattle.std.proofs.Common.{ℕ, ◌≡◌, ◌<◌, ◌+◌, ◌⊎◌, List, [], ◌∷◌, ◌++◌, length, get_or, arith}
+use Rattle.std.proofs.Common.{ℕ, ◌≡◌, ◌<◌, ◌+◌, List, [], ◌∷◌, ◌++◌, length, get_or, arith}
 use Rattle.std.proofs.lemmas.Grind.{common_steps}
-
--- a number below n + 1 is below n, or is n
-pub split : (i n : ℕ) → i < n + 1 → (i < n) ⊎ (i ≡ n)
-split i n lt = grind arith
 
 pub pushed_length : {A : Type 0} → (xs : List A) (x : A) → length (xs ++ x ∷ []) ≡ length xs + 1
 pushed_length xs x = grind (arith, common_steps)

@@ -5,7 +5,8 @@ use Rattle.std.proofs.lemmas.Bool.Decides.{nat_tests}
 use Rattle.layout_rounds.specs.declared.shape.ShapeSection.{ShapeSection}
 use Rattle.layout_rounds.specs.declared.grouping.Spot.{Spot}
 use Rattle.layout_rounds.specs.Shapes.{aligned, next_spot, spot_at, section_of, AreSound, IsSoundSection}
-use Rattle.layout_rounds.proofs.Aligned.{aligned_most}
+use Rattle.layout_rounds.proofs.Aligned.{power_pos, aligned_most, aligned_least}
+use Rattle.layout_rounds.proofs.Cases.{below_or_same, upto_or_next}
 
 -- a section that joins the group of the one before
 pub spot_joins : (reach : ℕ) (last : Spot) (before section : ShapeSection) (at : ℕ) →
@@ -67,6 +68,24 @@ next_either reach last before section sound =
       })
     ]
 
+-- in one group a section doesn't begin before the end of the one before it
+next_behind : (reach : ℕ) (last : Spot) (before section : ShapeSection) →
+    IsSoundSection section →
+    (next_spot reach last before section).group ≡ last.group →
+    last.offset + before.size ≤ (next_spot reach last before section).offset
+next_behind reach last before section sound same =
+    let at = aligned (last.offset + before.size) section.align in
+    elim (one_of ((before.toc == section.toc) && nat_le (at + section.size) reach)
+    (record { group = last.group; offset = at }) (record { group = last.group + 1; offset = 0 })) [
+      | inl e ↦
+          let o : (next_spot reach last before section).offset ≡ at = ap (λ (s : Spot). s.offset) e in
+          let least = aligned_least (last.offset + before.size) section.align (power_pos section.align sound.power) in
+          omega (arith, o, least)
+      | inr e ↦
+          let g : (next_spot reach last before section).group ≡ last.group + 1 = ap (λ (s : Spot). s.group) e in
+          absurd (omega (arith, g, same))
+    ]
+
 module _ (sections : List ShapeSection) (reach : ℕ) (sound : AreSound sections) where
   step : (s : ℕ) → suc s < length sections →
       Joins (spot_at sections reach s) (section_of sections s) (spot_at sections reach (suc s))
@@ -95,22 +114,43 @@ module _ (sections : List ShapeSection) (reach : ℕ) (sound : AreSound sections
     | inr begins ↦ omega (arith, begins.offset)
   ]
 
-  behind : (s r : ℕ) → s ≤ suc r → (s ≤ r) ⊎ (s ≡ suc r)
-  behind s r le = grind arith
-
   -- groups rise
   pub group_rises : (s r : ℕ) →
       s ≤ r →
       r < length sections →
       (spot_at sections reach s).group ≤ (spot_at sections reach r).group
   group_rises s zero le lt = let e : s ≡ 0 = omega (arith, le) in rw e (omega arith)
-  group_rises s (suc r) le lt = elim (behind s r le) [
+  group_rises s (suc r) le lt = elim (upto_or_next s r le) [
     | inl below ↦ elim (step r lt) [
       | inl joins ↦ omega (arith, joins.group, group_rises s r below (omega (arith, lt)))
       | inr begins ↦ omega (arith, begins.group, group_rises s r below (omega (arith, lt)))
     ]
     | inr same ↦ rw same (omega arith)
   ]
+
+  -- nor before the end of any that is before it
+  pub spot_after : (s r : ℕ) →
+      s < r →
+      r < length sections →
+      (spot_at sections reach s).group ≡ (spot_at sections reach r).group →
+      (spot_at sections reach s).offset + (section_of sections s).size ≤ (spot_at sections reach r).offset
+  spot_after s zero below lt same = absurd (omega (arith, below))
+  spot_after s (suc r) below lt same =
+      let rises = group_rises s r (omega (arith, below)) (omega (arith, lt)) in
+      let last = group_rises r (suc r) (omega arith) lt in
+      let step : (spot_at sections reach r).offset + (section_of sections r).size ≤
+      (spot_at sections reach (suc r)).offset =
+      next_behind reach (spot_at sections reach r) (section_of sections r) (section_of sections (suc r))
+      (sound.each (suc r) lt) (omega (arith, rises, last, same)) in
+      elim (upto_or_next s r (omega (arith, below))) [
+        | inl le ↦ elim (below_or_same s r le) [
+          | inl earlier ↦
+              let rest = spot_after s r earlier (omega (arith, lt)) (omega (arith, rises, last, same)) in
+              omega (arith, rest, step)
+          | inr e ↦ rw e step
+        ]
+        | inr e ↦ absurd (omega (arith, e, below))
+      ]
 
 -- the spot of a section behind another
 pub spot_next : (sections : List ShapeSection) (reach s : ℕ) (last : Spot) (before section : ShapeSection) →

@@ -3,3 +3,4 @@ pub mod Layout
 pub mod FarSets
 pub mod inside
 pub mod Reach
+pub mod Settled

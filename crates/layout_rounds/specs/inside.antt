@@ -3,3 +3,5 @@ pub mod Seen
 pub mod Placed
 pub mod Checked
 pub mod Calls
+pub mod Ways
+pub mod Rounds

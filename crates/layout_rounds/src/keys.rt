@@ -1,5 +1,5 @@
 // Call keys: what calls have in common that share a stub.
-ghost use Rattle.std.specs.Prelude.{◌≡◌, ◌+◌, ◌-◌, ◌<◌, ◌^◌, ℕ, Bool, length, [], IfOk, OnOk};
+ghost use Rattle.std.specs.Prelude.{◌≡◌, ◌+◌, ◌-◌, ◌<◌, ◌^◌, ℕ, Bool, length, [], slice_index, IfOk, OnOk};
 ghost use Rattle.layout_rounds.specs.FarSets.{member};
 ghost use Rattle.layout_rounds.specs.Shapes.{key_of, keys_of, numbers_of, same_key, site_of, spots_of, with_key, IsSound};
 ghost use Rattle.layout_rounds.specs.Layout.{address, area, area_start, group_at, group_count, key_at, key_count, offset_at};
@@ -20,12 +20,12 @@ use stub_kinds::{Class, Key, size};
 /// The sections of a text in stub groups, and the keys of its calls.
 #[derive(Drop)]
 pub struct Keyed {
-    pub(crate) start: u64,
-    pub(crate) reach: u64,
-    pub(crate) unit: u64,
-    pub(crate) sections: Vec<ShapeSection>,
+    start: u64,
+    reach: u64,
+    unit: u64,
+    sections: Vec<ShapeSection>,
     pub(crate) spots: Vec<Spot>,
-    pub(crate) keys: Vec<Key>,
+    keys: Vec<Key>,
     pub(crate) numbers: Vec<u32>,
 }
 
@@ -75,7 +75,7 @@ impl Keyed {
     }
 
     /// How many keys there are.
-    pub(crate) fn key_count(&self) -> u32
+    pub fn key_count(&self) -> u32
         ensures count { result ≡ key_count self.now }
         // where their stubs end, whichever keys are far
         ensures low { (F : ℕ → Bool) (k : ℕ) → k < result →
@@ -95,6 +95,14 @@ impl Keyed {
         self.spots[section as usize]
     }
 
+    /// The stub group of a section.
+    pub fn group_of(&self, section: u32) -> u32
+        requires { section < section_count self.now }
+        ensures { result ≡ group_at self.now section }
+    {
+        self.spot_of(section).group
+    }
+
     /// How many bytes a section has.
     pub(crate) fn section_size(&self, section: u32) -> u64
         requires { section < section_count self.now }
@@ -104,12 +112,27 @@ impl Keyed {
     }
 
     /// The key with a number.
-    pub(crate) fn key(&self, k: u32) -> Key
+    pub fn key(&self, k: u32) -> Key
         requires { k < key_count self.now }
         ensures key { result ≡ key_at self.now k }
         ensures within { result.group < group_count self.now }
     {
         self.keys[k as usize]
+    }
+
+    /// The number of a call's key.
+    pub fn key_of(&self, site: u32) -> u32
+        requires { site < length self.now.numbers }
+        ensures { result ≡ slice_index self.now.numbers site }
+    {
+        self.numbers[site as usize]
+    }
+
+    /// The number of each call's key.
+    pub(crate) fn numbers(&self) -> &[u32]
+        ensures { result.now ≡ self.now.numbers }
+    {
+        self.numbers.as_slice()
     }
 
     /// How many bytes the stub of a key has, where these keys are far.

@@ -20,6 +20,12 @@ pub fn reach_shrinks()
         reaches_near (keyed_text shape span) shape.sites.items span F k ≡ true }
 {}
 
+/// Each shape has a far set.
+pub fn some_far_set()
+    ensures { (shape : Shape) (span : ℕ) → IsSound shape → IsSpan span →
+        (F : ℕ → Bool) × IsFarSet shape span F }
+{}
+
 /// A shape has at most one far set.
 pub fn one_far_set()
     ensures { (shape : Shape) (span : ℕ) (F G : ℕ → Bool) →

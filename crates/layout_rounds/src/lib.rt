@@ -6,14 +6,18 @@ mod far_set;
 mod grouping;
 mod keys;
 mod laws;
+mod near;
 mod placing;
+mod rounds;
+mod settling;
 mod shape;
 
 pub use far_set::FarSet;
 pub use grouping::{Spot, group};
 pub use keys::Keyed;
-pub use laws::{areas_grow, one_far_set, reach_shrinks};
+pub use laws::{areas_grow, one_far_set, reach_shrinks, some_far_set};
 pub use placing::{Places, place};
+pub use settling::{LayoutFault, Settled, TEXT_LIMIT, settle, settle_rounds};
 pub use shape::{Shape, ShapeSection, ShapeSite};
 
 #[cfg(test)]

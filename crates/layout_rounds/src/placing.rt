@@ -53,6 +53,13 @@ impl Places {
         self.stubs[key as usize]
     }
 
+    /// Where each group starts, and where the last one ends.
+    pub(crate) fn starts(&self) -> &[u64]
+        ensures { result.now ≡ self.now.starts }
+    {
+        self.starts.as_slice()
+    }
+
     /// Where the last section or stub ends, whichever is later.
     pub fn end(&self) -> u64
         ensures { result ≡ self.now.end }
@@ -62,7 +69,7 @@ impl Places {
 }
 
 /// How many bytes the sections of each stub group take.
-fn group_sizes(alloc: Global, keyed: &Keyed) -> Result<Vec<u64>, Memory>
+pub(crate) fn group_sizes(alloc: Global, keyed: &Keyed) -> Result<Vec<u64>, Memory>
     ensures { IfOk result (λ sizes. AreSizes keyed.now (length keyed.now.sections) sizes.items) }
 {
     let mut sizes = vec![in alloc; 0u64; keyed.group_count() as usize]?;

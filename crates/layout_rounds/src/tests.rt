@@ -3,6 +3,8 @@ ghost use Rattle.std.specs.Prelude.{◌≡◌, ◌<◌, length, IsTrue, IfOk};
 ghost use Rattle.layout_rounds.specs.Shapes.{IsInText, IsSound, IsSoundSection, IsSpan};
 ghost use Rattle.layout_rounds.specs.inside.Checked.{IsSoundSite};
 
+mod settling;
+
 use crate::{FarSet, Keyed, Places, Shape, ShapeSection, ShapeSite, group, place};
 use ppc_bytes::Steps;
 use std::alloc::Global;

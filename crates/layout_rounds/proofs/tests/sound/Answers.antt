@@ -2,7 +2,7 @@
 use Rattle.std.proofs.Common.{ℕ, ◌≡◌, ◌<◌, ◌%◌, inl, inr, ap, sym, subst, arith, rules, length}
 use Rattle.std.proofs.lemmas.List.{get_or_read}
 use Rattle.layout_rounds.specs.Shapes.{section_of, no_section, IsSoundSection}
-use Rattle.layout_rounds.proofs.Pushed.{split}
+use Rattle.layout_rounds.proofs.Cases.{split}
 use Rattle.layout_rounds.proofs.tests.sound.Goals as goal
 
 pub loop-s-preserved : goal.loop-s-preserved
