@@ -1,5 +1,6 @@
-// Where text sections and stubs stand: stub groups, call keys, and the layout of a set of keys whose stubs are far (ELFv2 ABI, "Function
-// Call"). All of it is a function of the sizes and alignments of the sections and of the places of the calls; nothing is looked up.
+// Where text sections and stubs stand: stub groups, call keys, the layout of a set of keys whose stubs are far, and the least set of far
+// keys with which all other calls reach (ELFv2 ABI, "Function Call"). All of it is a function of the sizes and alignments of the sections
+// and of the places of the calls; nothing is looked up.
 #![tactic(auto)]
 
 mod far_set;

@@ -91,7 +91,7 @@ fn stub_reach(shape: &Shape, span: u32, settled: &Settled) -> Option<u32>
 }
 
 /// The layout of the far set, if the text is within its limit and each call reaches its stub.
-fn accepted(shape: &Shape, span: u32, settled: Settled) -> Result<Settled, LayoutFault>
+fn accepted_layout(shape: &Shape, span: u32, settled: Settled) -> Result<Settled, LayoutFault>
     requires sound { IsSound shape.now }
     requires span { IsSpan span }
     requires layout { IsFarLayout shape.now span settled.keyed settled.far settled.places }
@@ -137,7 +137,7 @@ pub fn settle_rounds<L: Ledger>(
                 places,
                 looks,
             };
-            return accepted(shape, span, settled);
+            return accepted_layout(shape, span, settled);
         }
     }
 }
@@ -175,5 +175,5 @@ pub fn settle<L: Ledger>(
         places,
         looks,
     };
-    accepted(shape, span, settled)
+    accepted_layout(shape, span, settled)
 }

@@ -16,9 +16,9 @@ use std::sync::ledger::{Blank, Ledger};
 use std::test::Fail;
 use stub_kinds::{Class, size};
 
-/// The two ways to find a far set.
+/// The two bodies that find a far set.
 #[derive(Clone, Copy)]
-enum Way {
+enum Body {
     Rounds,
     Looks,
 }
@@ -30,20 +30,21 @@ fn is_span(span: u32) -> bool
     span % 4 == 0 && 0x100 <= span && span <= 0x200_0000
 }
 
-fn settled<L: Ledger>(
+/// What a body finds.
+fn settled_by<L: Ledger>(
     alloc: Global,
     steps: &mut Steps<L>,
     shape: &Shape,
     span: u32,
-    way: Way,
+    body: Body,
 ) -> Result<Settled, LayoutFault>
     requires sound { IsSound shape.now }
     requires span { IsSpan span }
     ensures { IfOk result (λ s. IsFarLayout shape.now span s.keyed s.far s.places) }
 {
-    match way {
-        Way::Rounds => settle_rounds(alloc, shape, span, steps),
-        Way::Looks => settle(alloc, shape, span, steps),
+    match body {
+        Body::Rounds => settle_rounds(alloc, shape, span, steps),
+        Body::Looks => settle(alloc, shape, span, steps),
     }
 }
 
@@ -70,19 +71,19 @@ fn outcome<L: Ledger>(
     steps: &mut Steps<L>,
     shape: &Shape,
     span: u32,
-    way: Way,
+    body: Body,
 ) -> Result<(String, u64), Fail>
     requires sound { IsSound shape.now }
     requires span { IsSpan span }
 {
-    match settled(alloc, steps, shape, span, way) {
+    match settled_by(alloc, steps, shape, span, body) {
         Ok(s) => Ok((layout_text(alloc, &s.keyed, &s.far, &s.places)?, s.looks)),
         Err(LayoutFault::Memory) => Err(Fail::new("memory")),
         Err(fault) => Ok((format!(in alloc; "{fault:?}")?, 0)),
     }
 }
 
-/// What both ways find, and the looks of each.
+/// What both bodies find, and the looks of each.
 fn row<L: Ledger>(
     alloc: Global,
     steps: &mut Steps<L>,
@@ -94,8 +95,8 @@ fn row<L: Ledger>(
     if !is_span(span) {
         return Err(Fail::new("no branch span"));
     }
-    let (rounds, all) = outcome(alloc, steps, shape, span, Way::Rounds)?;
-    let (looks, some) = outcome(alloc, steps, shape, span, Way::Looks)?;
+    let (rounds, all) = outcome(alloc, steps, shape, span, Body::Rounds)?;
+    let (looks, some) = outcome(alloc, steps, shape, span, Body::Looks)?;
     if rounds != looks {
         return Err(Fail::new("two answers"));
     }
@@ -126,8 +127,8 @@ fn chain_and_near_calls(alloc: Global) -> Result<Shape, Fail>
     sound(shape)
 }
 
-/// How far keys are told apart, with the looks of whole rounds and those at keys near which something grew.
-fn looks<L: Ledger>(
+/// How many keys are far, and how many looks each body takes.
+fn looks_row<L: Ledger>(
     alloc: Global,
     steps: &mut Steps<L>,
     shape: &Shape,
@@ -167,7 +168,7 @@ fn rows<L: Ledger>(blank: Blank, alloc: Global) -> Result<String, Fail>
     let long = row(alloc, &mut steps, &long, 0x200_0000)?;
     let full = row(alloc, &mut steps, &full, 0x200_0000)?;
     let out = row(alloc, &mut steps, &out, 0x100)?;
-    let many = looks(alloc, &mut steps, &many, 0x400)?;
+    let many = looks_row(alloc, &mut steps, &many, 0x400)?;
     Ok(format!(in alloc; "{far}\n{near}\n{long}\n{full}\n{out}\n{many}\n")?)
 }
 
@@ -393,7 +394,7 @@ fn first_out(
 }
 
 /// The outcome of a shape of at most nine calls, of which every set of keys is tried.
-fn tried<L: Ledger>(
+fn tried_outcome<L: Ledger>(
     alloc: Global,
     steps: &mut Steps<L>,
     shape: &Shape,
@@ -425,7 +426,7 @@ struct Tally {
     out: u32,
 }
 
-/// All three ways on a shape with a branch span.
+/// Both bodies, and the trial of every set, on a shape with a branch span.
 fn compare<L: Ledger>(
     alloc: Global,
     steps: &mut Steps<L>,
@@ -438,9 +439,9 @@ fn compare<L: Ledger>(
     if !is_span(span) {
         return Err(Fail::new("no branch span"));
     }
-    let (rounds, all) = outcome(alloc, steps, shape, span, Way::Rounds)?;
-    let (looks, some) = outcome(alloc, steps, shape, span, Way::Looks)?;
-    let tried = tried(alloc, steps, shape, span)?;
+    let (rounds, all) = outcome(alloc, steps, shape, span, Body::Rounds)?;
+    let (looks, some) = outcome(alloc, steps, shape, span, Body::Looks)?;
+    let tried = tried_outcome(alloc, steps, shape, span)?;
     if rounds != looks || rounds != tried || some > all {
         return Err(Fail::new(&format!(in alloc; "{rounds}\n{looks}\n{tried}\n")?));
     }
@@ -452,7 +453,7 @@ fn compare<L: Ledger>(
     Ok(())
 }
 
-/// Tells the three ways apart on random shapes, and how many of these were of each kind.
+/// All three on random shapes, and how many of these were of each kind.
 fn random_shapes<L: Ledger>(blank: Blank, alloc: Global) -> Result<Tally, Fail>
     requires name { blank.name ≡ L.name }
     requires parts { blank.parts ≡ L.parts }

@@ -1,7 +1,7 @@
 -- widen-round-requires and widen_grown-round-requires: ways have their starts in both layouts, and each key outside the set reached near
 -- in the one before. loop-round-init and loop-round-preserved: one more round. The clauses of ticks: each placement but the last was
 -- followed by a new far key. overflow_add-looks: there are fewer than 2^32 keys, and no more rounds. loop-round-smaller: the set has
--- grown, or nothing was added. accepted-requires-clause-layout: where none was added, the places are those of the far set.
+-- grown, or nothing was added. accepted_layout-requires-clause-layout: where none was added, the places are those of the far set.
 use Rattle.std.proofs.Common.{◌<◌, ◌+◌, ◌∙◌, refl, sym, subst, arith}
 use Rattle.layout_rounds.specs.FarSets.{member}
 use Rattle.layout_rounds.specs.Shapes.{KeyedText, keyed_text}
@@ -11,6 +11,10 @@ use Rattle.layout_rounds.proofs.Counting.{count_most}
 use Rattle.layout_rounds.proofs.FarLayouts.{growing_start, settling_more, settling_done, given_placed, given_near, given_long, near_round}
 use Rattle.layout_rounds.proofs.FarLayouts.{key_most, laid_at, ways_at, count_at}
 use Rattle.layout_rounds.proofs.settling.settle.Goals as goal
+use Rattle.layout_rounds.proofs.settling.settle.Goals.{After-drop-places-inside-in-loop-round-4}
+use Rattle.layout_rounds.proofs.settling.settle.Given.{Over}
+use Rattle.layout_rounds.specs.Reach.{reaches_near}
+use Rattle.layout_rounds.specs.inside.Rounds.{IsRound}
 
 pub widen-round-requires-clause-placed : goal.widen-round-requires-clause-placed
 widen-round-requires-clause-placed g c =
@@ -120,51 +124,51 @@ overflow_add-looks g c =
       long,
     )
 
-pub loop-round-smaller : goal.loop-round-smaller
-loop-round-smaller g c =
+-- a later round, by near reach in its layout
+next_round : (g : Over) (c : After-drop-places-inside-in-loop-round-4 g) →
+    let shape = c.args.shape.now in
+    let t = keyed_text shape c.args.span in
+    let old = c.loop-round.far in
+    IsRound (reaches_near t shape.sites.items c.args.span (member old)) old c.widen_grown-round.new.far (key_count t)
+    c.widen_grown-round.result
+next_round g c =
     let shape = c.args.shape.now in
     let span = c.args.span in
-    let t = keyed_text shape span in
-    let sites = shape.sites.items in
-    let calls = are_calls shape span c.requires.sound in
     let is = c.in_ok-keyed.ensures in
-    let so_far = c.loop-round.invariant in
     let old = c.loop-round.far in
-    let new = c.widen_grown-round.new.far in
-    let done = near_round t sites span calls (member old) c.in_ok-next.next
-    (laid_at shape span c.in_ok-keyed.keyed (member old) c.in_ok-next.next is c.in_ok-next.ensures.layout)
+    let next = c.in_ok-next.next in
+    near_round (keyed_text shape span) shape.sites.items span (are_calls shape span c.requires.sound) (member old) next
+    (laid_at shape span c.in_ok-keyed.keyed (member old) next is c.in_ok-next.ensures.layout)
     c.in_ok-ways.ways.items c.deref-in-loop-round.result.now c.starts-in-loop-round-2.result.now
     (ways_at shape span c.in_ok-keyed.keyed c.in_ok-ways.ways.items is c.in_ok-ways.ensures)
-    c.deref-in-loop-round.ensures.value c.starts-in-loop-round-2.ensures old new c.widen_grown-round.result so_far.long
-    c.widen_grown-round.ensures in
-    omega (arith, done.counted, count_most (member new) (key_count t), c.loop-round-test.true)
+    c.deref-in-loop-round.ensures.value c.starts-in-loop-round-2.ensures old c.widen_grown-round.new.far
+    c.widen_grown-round.result c.loop-round.invariant.long c.widen_grown-round.ensures
+
+pub loop-round-smaller : goal.loop-round-smaller
+loop-round-smaller g c =
+    let t = keyed_text c.args.shape.now c.args.span in
+    let done = next_round g c in
+    omega (arith, done.counted, count_most (member c.widen_grown-round.new.far) (key_count t), c.loop-round-test.true)
 
 pub loop-round-preserved : goal.loop-round-preserved
 loop-round-preserved g c =
     let shape = c.args.shape.now in
     let span = c.args.span in
-    let t = keyed_text shape span in
-    let sites = shape.sites.items in
     let calls = are_calls shape span c.requires.sound in
-    let is = c.in_ok-keyed.ensures in
     let so_far = c.loop-round.invariant in
     let old = c.loop-round.far in
-    let new = c.widen_grown-round.new.far in
     let round = c.widen_grown-round.result in
     let next = c.in_ok-next.next in
-    let laid = laid_at shape span c.in_ok-keyed.keyed (member old) next is c.in_ok-next.ensures.layout in
-    let done = near_round t sites span calls (member old) next laid c.in_ok-ways.ways.items
-    c.deref-in-loop-round.result.now c.starts-in-loop-round-2.result.now
-    (ways_at shape span c.in_ok-keyed.keyed c.in_ok-ways.ways.items is c.in_ok-ways.ensures)
-    c.deref-in-loop-round.ensures.value c.starts-in-loop-round-2.ensures old new round so_far.long
-    c.widen_grown-round.ensures in
-    settling_more t sites span calls (omega (arith, c.requires.span.least)) old new round done so_far.long so_far.within
-    next c.args.steps.now c.place-in-loop-round.new.steps (c.loop-round.looks + round.looks) laid
+    let done = next_round g c in
+    settling_more (keyed_text shape span) shape.sites.items span calls (omega (arith, c.requires.span.least)) old
+    c.widen_grown-round.new.far round done so_far.long so_far.within next c.args.steps.now
+    c.place-in-loop-round.new.steps (c.loop-round.looks + round.looks)
+    (laid_at shape span c.in_ok-keyed.keyed (member old) next c.in_ok-keyed.ensures c.in_ok-next.ensures.layout)
     (omega (arith, so_far.ticks, so_far.counted, c.loop-round-test.true, c.in_ok-next.ensures.tick))
     (omega (arith, so_far.few, so_far.counted, c.loop-round-test.true, done.most, calls.keyed.few_keys))
 
-pub accepted-requires-clause-layout : goal.accepted-requires-clause-layout
-accepted-requires-clause-layout g c =
+pub accepted_layout-requires-clause-layout : goal.accepted_layout-requires-clause-layout
+accepted_layout-requires-clause-layout g c =
     let shape = c.args.shape.now in
     let span = c.args.span in
     let t = keyed_text shape span in

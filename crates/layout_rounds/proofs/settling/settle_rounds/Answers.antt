@@ -1,6 +1,6 @@
 -- loop-ways-init: no key is far at first. place-requires: the set has room for every key. widen-round-requires: ways have their
 -- starts. overflow_add-looks: there are fewer than 2^32 keys, and no more rounds. The clauses of ticks: each placement but the last was
--- followed by a new far key. accepted-requires-clause-layout: where none was added, the set is closed. loop-ways-smaller and
+-- followed by a new far key. accepted_layout-requires-clause-layout: where none was added, the set is closed. loop-ways-smaller and
 -- loop-ways-preserved: else it has grown, within every closed set.
 use Rattle.std.proofs.Common.{◌≡◌, ◌+◌, ◌∙◌, refl, ap, sym, subst, arith, Bool, List, length}
 use Rattle.layout_rounds.specs.FarSets.{member}
@@ -12,6 +12,10 @@ use Rattle.layout_rounds.proofs.Counting.{count_most}
 use Rattle.layout_rounds.proofs.FarLayouts.{growing_start, growing_more, given_placed, given_long, near_round, round_least, key_most}
 use Rattle.layout_rounds.proofs.FarLayouts.{laid_at, ways_at, count_at}
 use Rattle.layout_rounds.proofs.settling.settle_rounds.Goals as goal
+use Rattle.layout_rounds.proofs.settling.settle_rounds.Goals.{After-drop-places-inside-in-loop-ways-3}
+use Rattle.layout_rounds.proofs.settling.settle_rounds.Given.{Over}
+use Rattle.layout_rounds.specs.Reach.{reaches_near}
+use Rattle.layout_rounds.specs.inside.Rounds.{IsRound}
 
 pub loop-ways-init : goal.loop-ways-init
 loop-ways-init g c =
@@ -74,8 +78,8 @@ overflow_add-looks g c =
       long,
     )
 
-pub accepted-requires-clause-layout : goal.accepted-requires-clause-layout
-accepted-requires-clause-layout g c =
+pub accepted_layout-requires-clause-layout : goal.accepted_layout-requires-clause-layout
+accepted_layout-requires-clause-layout g c =
     let shape = c.args.shape.now in
     let span = c.args.span in
     let t = keyed_text shape span in
@@ -115,45 +119,42 @@ returns-then-round-eq0-clause-ticks g c =
     let few = count_most (member c.loop-ways.far) (key_count t) in
     omega (arith, c.loop-ways.invariant.grows.ticks, c.in_ok-places.ensures.tick, few, most, same)
 
-pub loop-ways-smaller : goal.loop-ways-smaller
-loop-ways-smaller g c =
+-- a round, by near reach in its layout
+this_round : (g : Over) (c : After-drop-places-inside-in-loop-ways-3 g) →
+    let shape = c.args.shape.now in
+    let t = keyed_text shape c.args.span in
+    let old = c.loop-ways.far in
+    IsRound (reaches_near t shape.sites.items c.args.span (member old)) old c.widen-round.new.far (key_count t)
+    c.widen-round.result
+this_round g c =
     let shape = c.args.shape.now in
     let span = c.args.span in
-    let t = keyed_text shape span in
-    let sites = shape.sites.items in
-    let calls = are_calls shape span c.requires.sound in
     let so_far = c.loop-ways.invariant in
     let old = c.loop-ways.far in
-    let new = c.widen-round.new.far in
     let places = c.in_ok-places.places in
-    let done = near_round t sites span calls (member old) places
+    near_round (keyed_text shape span) shape.sites.items span (are_calls shape span c.requires.sound) (member old) places
     (laid_at shape span c.loop-ways.keyed (member old) places so_far.keyed_is c.in_ok-places.ensures.layout)
     c.in_ok-ways.ways.items c.deref.result.now c.starts.result.now
     (ways_at shape span c.in_ok-keyed.keyed c.in_ok-ways.ways.items c.in_ok-keyed.ensures c.in_ok-ways.ensures)
-    c.deref.ensures.value c.starts.ensures old new c.widen-round.result so_far.grows.long c.widen-round.ensures in
-    let most = count_most (member new) (key_count t) in
-    omega (arith, done.counted, most, c.if-round-eq0.false)
+    c.deref.ensures.value c.starts.ensures old c.widen-round.new.far c.widen-round.result so_far.grows.long
+    c.widen-round.ensures
+
+pub loop-ways-smaller : goal.loop-ways-smaller
+loop-ways-smaller g c =
+    let t = keyed_text c.args.shape.now c.args.span in
+    let done = this_round g c in
+    omega (arith, done.counted, count_most (member c.widen-round.new.far) (key_count t), c.if-round-eq0.false)
 
 pub loop-ways-preserved : goal.loop-ways-preserved
 loop-ways-preserved g c =
     let shape = c.args.shape.now in
     let span = c.args.span in
-    let t = keyed_text shape span in
-    let sites = shape.sites.items in
-    let calls = are_calls shape span c.requires.sound in
     let so_far = c.loop-ways.invariant in
-    let old = c.loop-ways.far in
-    let new = c.widen-round.new.far in
     let round = c.widen-round.result in
-    let places = c.in_ok-places.places in
-    let done = near_round t sites span calls (member old) places
-    (laid_at shape span c.loop-ways.keyed (member old) places so_far.keyed_is c.in_ok-places.ensures.layout)
-    c.in_ok-ways.ways.items c.deref.result.now c.starts.result.now
-    (ways_at shape span c.in_ok-keyed.keyed c.in_ok-ways.ways.items c.in_ok-keyed.ensures c.in_ok-ways.ensures)
-    c.deref.ensures.value c.starts.ensures old new round so_far.grows.long c.widen-round.ensures in
     record {
       keyed_is = so_far.keyed_is;
-      grows = growing_more t sites span calls (omega (arith, c.requires.span.least)) old new round done
+      grows = growing_more (keyed_text shape span) shape.sites.items span (are_calls shape span c.requires.sound)
+          (omega (arith, c.requires.span.least)) c.loop-ways.far c.widen-round.new.far round (this_round g c)
           so_far.grows.long so_far.grows.within c.args.steps.now c.loop-ways.steps c.loop-ways.looks c.place.new.steps
           (c.loop-ways.looks + round.looks) so_far.grows c.in_ok-places.ensures.tick refl c.if-round-eq0.false;
     }

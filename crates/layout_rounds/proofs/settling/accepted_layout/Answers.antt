@@ -8,7 +8,7 @@ use Rattle.layout_rounds.specs.Settled.{text_limit, is_out, IsOut}
 use Rattle.layout_rounds.proofs.Called.{are_calls}
 use Rattle.layout_rounds.proofs.FarLayouts.{same_set}
 use Rattle.layout_rounds.proofs.StubsOut.{find_all, reached_by}
-use Rattle.layout_rounds.proofs.settling.accepted.Goals as goal
+use Rattle.layout_rounds.proofs.settling.accepted_layout.Goals as goal
 
 pub returns-then-end-shape-clause-refused : goal.returns-then-end-shape-clause-refused
 returns-then-end-shape-clause-refused c = λ F is_far.
