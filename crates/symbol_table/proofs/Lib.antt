@@ -4,3 +4,8 @@ pub mod Steps
 pub mod NameTables
 pub mod Numbers
 pub mod NumberedCommons
+pub mod KindNumbers
+pub mod FilteredLists
+pub mod PlaceOrder
+pub mod FieldWindows
+pub mod FileRecords

@@ -5,3 +5,5 @@ pub mod Names
 pub mod Commons
 pub mod Text
 pub mod Resolved
+pub mod Places
+pub mod Fields

@@ -1,0 +1,29 @@
+use Rattle.std.proofs.Common.{◌≡◌, ℕ, List, sym, ap, ◌∙◌, subst}
+use Rattle.std.specs.List.{filter}
+use Rattle.std.specs.List.Sorted.{IsPermutation}
+use Rattle.object_set.specs.Files.{file_at}
+use Rattle.symbol_table.specs.declared.fields.RecordField.{RecordField}
+use Rattle.symbol_table.specs.Fields.{fields_of, meets, overlaps_earlier}
+use Rattle.symbol_table.specs.inside.Fields.{FileOf}
+use Rattle.symbol_table.proofs.FileRecords.{items_narrow, earlier_found}
+use Rattle.symbol_table.proofs.fields.FileFields.overlaps_earlier.Goals as goal
+
+-- no field of the file has more than eight bytes
+pub window-requires-clause-narrow : goal.window-requires-clause-narrow
+window-requires-clause-narrow c =
+    items_narrow c.self.inside.set.now c.self.inside.file c.self.inside.items.items c.deref.result.now c.self.invariant
+    c.deref.ensures.value
+
+-- a field with common bytes is in the window
+pub returns : goal.returns
+returns c =
+    let r = c.args.id in
+    let items = c.self.inside.items.items in
+    let number : r.file ≡ c.self.inside.file = c.requires.file ∙ ap (λ (f : FileOf). f.file) (sym c.self.view_is) in
+    let b = file_at c.self.inside.set.now r.file in
+    let same : IsPermutation (fields_of r.file b) items =
+    subst (λ (n : ℕ). IsPermutation (fields_of n (file_at c.self.inside.set.now n)) items) (sym number) c.self.invariant.same in
+    let field = c.of_record-field.result in
+    let holds = c.window.ensures ∙ ap (λ (l : List RecordField). filter (meets r.section field.start field.width) l) c.deref.ensures.value in
+    subst (λ (f : FileOf). c.has_earlier.result ≡ overlaps_earlier r.file (file_at f.files r.file) r) c.self.view_is
+    (earlier_found r.file b items c.window.result.now r c.has_earlier.result same field c.of_record-field.ensures holds c.has_earlier.ensures)

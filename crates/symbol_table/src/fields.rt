@@ -1,0 +1,305 @@
+// The fields that the relocation records of a file fill, by their places.
+ghost use Rattle.std.specs.Prelude.{◌≡◌, ◌<◌, ◌≤◌, ◌+◌, ◌^◌, ◌++◌, ◌==◌, ◌&&◌, ℕ, All, IfOk, IfSome, OnOk, IsTrue, length, map, filter};
+ghost use Rattle.std.specs.List.{slice_index_or, list_any};
+ghost use Rattle.std.specs.List.Sorted.{IsPermutation, IsNonDecreasingBy};
+ghost use Rattle.elf64_records.specs.FileHeader.{e_shnum};
+ghost use Rattle.elf64_records.specs.Records.{record_count};
+ghost use Rattle.object_set.specs.Files.{file_at};
+ghost use Rattle.object_set.specs.Walks.{IsRecord, records_in};
+ghost use Rattle.reloc_fields.specs.Table.{line_of};
+ghost use Rattle.symbol_table.specs.Fields.{kind_numbered, width_in, field_of, fields_meeting, meets, comes_before, overlaps_earlier};
+ghost use Rattle.symbol_table.specs.inside.Places.{rank};
+ghost use Rattle.symbol_table.specs.inside.Fields.{place_of, rank_of, IsFieldOf, AreTwo, AreOnlyTwo};
+
+use crate::places::FilePlace;
+use object_set::{ObjectSet, RecordId};
+use reloc_fields::{Kind, kind_of, width};
+use std::alloc::{AllocError, Global};
+use std::marker::Model;
+
+/// How many bytes the largest field has.
+const LARGEST_FIELD: u64 = 8;
+
+/// The field that a relocation record fills.
+#[derive(Clone, Copy)]
+pub struct RecordField {
+    /// The record.
+    pub id: RecordId,
+    /// The offset of its first byte in the section that the record is about.
+    pub start: u64,
+    /// How many bytes it has.
+    pub width: u32,
+}
+
+/// The kind of a relocation with this number.
+pub fn kind_numbered(number: u32) -> Option<Kind>
+    ensures { result ≡ kind_numbered number }
+{
+    kind_of(number)
+}
+
+/// How many bytes a relocation with this number fills: none where it is unknown.
+fn width_of(number: u32) -> u32
+    ensures { result ≡ width_in (kind_numbered number) }
+{
+    match kind_numbered(number) {
+        Some(kind) => width(kind),
+        None => 0,
+    }
+}
+
+/// Whether a relocation's number is that of a kind.
+pub fn is_of_kind(number: u32, kind: Kind) -> bool
+    ensures { result ≡ (number == (line_of kind).number) }
+{
+    kind_of(number) == Some(kind)
+}
+
+/// Whether a record of a file comes before another one of it, in record order.
+fn comes_before(id: RecordId, other: RecordId) -> bool
+    ensures { result ≡ comes_before id other }
+{
+    id.table < other.table || (id.table == other.table && id.entry < other.entry)
+}
+
+impl RecordField {
+    /// The field of a record.
+    pub fn of_record(set: &ObjectSet, id: RecordId) -> RecordField
+        requires { IsRecord set.now id }
+        ensures { result ≡ field_of (file_at set.now id.file) id }
+    {
+        let rela = set.view(id.file).rela(id.table, id.entry);
+        RecordField {
+            id,
+            start: rela.offset,
+            width: width_of(rela.kind),
+        }
+    }
+
+    /// Where it begins.
+    fn place(&self) -> FilePlace
+        ensures { result ≡ place_of self.now }
+    {
+        FilePlace {
+            section: self.id.section,
+            offset: self.start,
+        }
+    }
+
+    /// Whether it has bytes among so many of a section from an offset on.
+    fn meets(&self, section: u32, from: u64, count: u32) -> bool
+        ensures { result ≡ meets section from count self.now }
+    {
+        if self.id.section != section {
+            false
+        } else if self.start <= from {
+            from - self.start < u64::from(self.width) && 0 < count
+        } else {
+            self.start - from < u64::from(count) && 0 < self.width
+        }
+    }
+}
+
+/// Whether fields are in order of their places.
+fn are_sorted(fields: &[RecordField]) -> bool
+    ensures { IsTrue result → IsNonDecreasingBy rank_of fields.now }
+{
+    for i in 1..fields.len() {
+        if fields[i].place().is_before(fields[i - 1].place()) {
+            return false;
+        }
+    }
+    true
+}
+
+/// Puts fields in order of their places. Those of a compiler's files mostly are.
+fn sort_fields(fields: &mut Vec<RecordField>)
+    ensures same { IsPermutation fields.old.items fields.new.items }
+    ensures sorted { IsNonDecreasingBy rank_of fields.new.items }
+{
+    if !are_sorted(fields) {
+        fields.sort_unstable_by(|f, g| f.place().order(g.place()));
+    }
+}
+
+/// How many of fields in order begin before a place.
+fn count_before(fields: &[RecordField], place: FilePlace) -> usize
+    requires { IsNonDecreasingBy rank_of fields.now }
+    ensures within { result ≤ length fields.now }
+    ensures before { (k : ℕ) (d : RecordField) → k < result →
+        rank_of (slice_index_or fields.now k d) < rank place }
+    ensures after { (k : ℕ) (d : RecordField) → result ≤ k → k < length fields.now →
+        rank place ≤ rank_of (slice_index_or fields.now k d) }
+{
+    fields.partition_point(|f| f.place().is_before(place))
+}
+
+/// The part of fields in order that holds those that have bytes among so many of a section from an offset on.
+fn window(fields: &[RecordField], section: u32, from: u64, count: u32) -> &[RecordField]
+    requires sorted { IsNonDecreasingBy rank_of fields.now }
+    requires narrow { All (λ f. f.width ≤ 8) fields.now }
+    requires fits { from + count < 2 ^ 64 }
+    ensures { filter (meets section from count) result.now
+        ≡ filter (meets section from count) fields.now }
+{
+    let first = FilePlace {
+        section,
+        offset: from.saturating_sub(LARGEST_FIELD),
+    };
+    let end = FilePlace {
+        section,
+        offset: from + u64::from(count),
+    };
+    let rest = &fields[count_before(fields, first)..];
+    &rest[..count_before(rest, end)]
+}
+
+/// Whether one of fields has bytes that are also this one's, and is an earlier record's.
+fn has_earlier(fields: &[RecordField], field: RecordField) -> bool
+    ensures { let section = field.id.section in
+        result ≡ list_any
+        (λ f. meets section field.start field.width f && comes_before f.id field.id) fields.now }
+{
+    let RecordField { id, start, width } = field;
+    fields.iter().any(|f| f.meets(id.section, start, width) && comes_before(f.id, id))
+}
+
+/// The fields that have bytes among so many of a section from an offset on, where there are two of them.
+fn only_two(
+    fields: &[RecordField],
+    section: u32,
+    from: u64,
+    count: u32,
+) -> Option<(RecordField, RecordField)>
+    ensures { AreTwo (filter (meets section from count) fields.now) result }
+{
+    let mut first = None;
+    let mut second = None;
+    for field in fields {
+        if field.meets(section, from, count) {
+            if second.is_some() {
+                return None;
+            }
+            second = first;
+            first = Some(*field);
+        }
+    }
+    match (second, first) {
+        (Some(f), Some(g)) => Some((f, g)),
+        _ => None,
+    }
+}
+
+/// The fields of the relocation records of a file. Contracts see the file.
+#[derive(Drop)]
+pub struct FileFields<'a, 'b> {
+    set: &'b ObjectSet<'a>,
+    file: u32,
+    /// The fields in order of their places.
+    items: Vec<RecordField>,
+}
+
+impl<'a, 'b> Model for FileFields<'a, 'b> {
+    ghost use Rattle.symbol_table.specs.inside.Fields.{FileOf, AreFileFields};
+
+    ghost Value = { FileOf };
+
+    ghost view = { λ f. record { files = f.set.now; file = f.file } };
+
+    ghost invariant = { λ f. AreFileFields f.set.now f.file f.items.items };
+}
+
+/// Puts the fields of the records of a section behind others.
+fn push_table(
+    items: &mut Vec<RecordField>,
+    set: &ObjectSet,
+    file: u32,
+    table: u32,
+) -> Result<(), AllocError>
+    requires file { file < length set.now }
+    requires table { table < e_shnum (file_at set.now file) }
+    ensures { let b = file_at set.now file in
+        let records = records_in file b table (record_count b table) in
+        OnOk result (items.new.items ≡ items.old.items ++ map (field_of b) records) }
+{
+    let view = set.view(file);
+    let section = view.section_header(table).info;
+    for entry in 0..view.record_count(table) {
+        let id = RecordId {
+            file,
+            table,
+            entry,
+            section,
+        };
+        items.push(RecordField::of_record(set, id))?;
+    }
+    Ok(())
+}
+
+impl<'a, 'b> FileFields<'a, 'b> {
+    /// The fields of a file of a set.
+    pub fn of_file(alloc: Global, set: &'b ObjectSet<'a>, file: u32) -> Result<Self, AllocError>
+        requires { file < length set.now }
+        ensures { IfOk result (λ fields. fields ≡ record { files = set.now; file = file }) }
+    {
+        let mut items = Vec::new(alloc);
+        for table in 0..set.view(file).section_count() {
+            push_table(&mut items, set, file, table)?;
+        }
+        sort_fields(&mut items);
+        Ok(FileFields { set, file, items })
+    }
+
+    /// The set of files.
+    pub fn set(&self) -> &'b ObjectSet<'a>
+        ensures { result.now ≡ self.now.files }
+    {
+        self.set
+    }
+
+    /// The file's number.
+    pub fn file(&self) -> u32
+        ensures number { result ≡ self.now.file }
+        ensures within { result < length self.now.files }
+    {
+        self.file
+    }
+
+    /// Whether a record's field has bytes that are also an earlier record's. A field that passes 2^64 isn't asked about.
+    ///
+    /// Records are asked about in order until one has such bytes, so that no field is looked at more often than fields without common
+    /// bytes lie round it.
+    pub fn overlaps_earlier(&self, id: RecordId) -> bool
+        requires record { IsRecord self.now.files id }
+        requires file { id.file ≡ self.now.file }
+        requires fits { let field = field_of (file_at self.now.files id.file) id in
+            field.start + field.width < 2 ^ 64 }
+        ensures { let b = file_at self.now.files id.file in
+            result ≡ overlaps_earlier id.file b id }
+    {
+        let field = RecordField::of_record(self.set, id);
+        let (section, start, width) = (id.section, field.start, field.width);
+        has_earlier(window(&self.items, section, start, width), field)
+    }
+
+    /// The two fields that have bytes among so many of a section from an offset on, where there are two.
+    pub fn only_two(
+        &self,
+        section: u32,
+        from: u64,
+        count: u32,
+    ) -> Option<(RecordField, RecordField)>
+        requires { from + count < 2 ^ 64 }
+        ensures two { let b = file_at self.now.files self.now.file in
+            AreOnlyTwo (fields_meeting self.now.file b section from count) result }
+        ensures records { IfSome result (λ (f, g).
+            IsFieldOf self.now.files self.now.file f × IsFieldOf self.now.files self.now.file g) }
+    {
+        only_two(
+            window(&self.items, section, from, count),
+            section,
+            from,
+            count,
+        )
+    }
+}
