@@ -9,3 +9,4 @@ pub mod FilteredLists
 pub mod PlaceOrder
 pub mod FieldWindows
 pub mod FileRecords
+pub mod EntryPlaces

@@ -4,5 +4,6 @@ pub mod Text
 pub mod Targets
 pub mod Resolved
 pub mod Fields
+pub mod Prologue
 pub mod laws
 pub mod inside

@@ -7,3 +7,4 @@ pub mod Text
 pub mod Resolved
 pub mod Places
 pub mod Fields
+pub mod Entries

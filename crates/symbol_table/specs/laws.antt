@@ -2,3 +2,5 @@
 pub mod Text
 pub mod Definitions
 pub mod Targets
+pub mod Sections
+pub mod Prologue

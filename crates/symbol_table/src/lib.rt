@@ -9,6 +9,7 @@ mod entry;
 mod fields;
 mod names;
 mod places;
+mod prologue;
 mod resolutions;
 mod resolved;
 mod role;
