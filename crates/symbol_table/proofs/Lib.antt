@@ -10,3 +10,5 @@ pub mod PlaceOrder
 pub mod FieldWindows
 pub mod FileRecords
 pub mod EntryPlaces
+pub mod JudgedRecords
+pub mod RecordWalk

@@ -5,5 +5,7 @@ pub mod Targets
 pub mod Resolved
 pub mod Fields
 pub mod Prologue
+pub mod Sites
+pub mod Records
 pub mod laws
 pub mod inside

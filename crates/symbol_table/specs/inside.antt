@@ -8,3 +8,4 @@ pub mod Resolved
 pub mod Places
 pub mod Fields
 pub mod Entries
+pub mod Records

@@ -11,7 +11,7 @@ use crate::text::TextSections;
 use object_set::{ObjectSet, Sort};
 
 /// Whether an instruction stands at an offset of a section: in text, at a multiple of 4 below the section's size.
-fn is_instruction(set: &ObjectSet, file: u32, section: u32, offset: u64) -> bool
+pub fn is_instruction(set: &ObjectSet, file: u32, section: u32, offset: u64) -> bool
     requires file { file < length set.now }
     requires section { section < e_shnum (file_at set.now file) }
     ensures { result ≡ is_instruction (file_at set.now file) section offset }
