@@ -7,5 +7,6 @@ pub mod Fields
 pub mod Prologue
 pub mod Sites
 pub mod Records
+pub mod Refusals
 pub mod laws
 pub mod inside

@@ -1,5 +1,5 @@
 -- Where records and the entry go (ELFv2 ABI, 3.4 "Symbol Table"; ELF64, "Relocation": S + A).
-use Rattle.std.specs.Prelude.{◌≡◌, ℕ, ℤ, ◌+◌, ◌%◌, ◌^◌, Bool, true, false, List, ◌||◌, ◌&&◌, ◌==◌, ◌<◌, Option, Some, None, length}
+use Rattle.std.specs.Prelude.{ℕ, ℤ, ◌+◌, ◌%◌, ◌^◌, Bool, true, false, List, ◌||◌, ◌&&◌, ◌==◌, ◌<◌, Option, Some, None, length}
 use Rattle.std.specs.Prelude.{is_some, unwrap_or, nat_lt, if◌then◌else◌}
 use Rattle.elf64_records.specs.Sections.{sh_size}
 use Rattle.elf64_records.specs.Symbols.{st_value, symbol_count}
@@ -17,8 +17,7 @@ use Rattle.symbol_table.specs.declared.target.Piece.TheVariants as piece
 use Rattle.symbol_table.specs.declared.target.Target.{Target}
 use Rattle.symbol_table.specs.declared.target.Target.TheVariants as target
 use Rattle.object_set.specs.declared.places.SymbolId.{SymbolId}
-use Rattle.symbol_table.specs.Candidates.{stands_for, definition_in, common_number, duplicate_refusal}
-use Rattle.elf64_records.specs.First.{◌orelse◌}
+use Rattle.symbol_table.specs.Candidates.{stands_for, definition_in, common_number}
 use Rattle.symbol_table.specs.Text.{text_index}
 use Rattle.std.specs.Int.{w64, cast_signed, cast_unsigned}
 
@@ -119,7 +118,3 @@ entry_at files resolution.Undefined = record { section = 0; offset = 0 }
 
 abbrev pub entry_place : List (List ℕ) → List ℕ → CodePlace
 entry_place files entry = entry_at files (stands_for files entry)
-
--- why files with an entry are refused: a name that is defined twice, and then the entry
-abbrev pub resolve_refusal : List (List ℕ) → List ℕ → Option Refusal
-resolve_refusal files entry = duplicate_refusal files orelse entry_refusal files entry

@@ -8,12 +8,14 @@ ghost use Rattle.object_set.specs.Refusals.{Answers};
 ghost use Rattle.object_set.specs.Symbols.{is_local, name_of};
 ghost use Rattle.symbol_table.specs.Text.{text_sections, text_number};
 ghost use Rattle.symbol_table.specs.Candidates.{all_commons, common_number, stands_for};
-ghost use Rattle.symbol_table.specs.Targets.{definition_of, external_target, target_of, entry_place, resolve_refusal};
+ghost use Rattle.symbol_table.specs.Targets.{definition_of, external_target, target_of, entry_place};
+ghost use Rattle.symbol_table.specs.Refusals.{resolve_refusal};
 ghost use Rattle.symbol_table.specs.Resolved.{pair_of, size_pair, section_id};
 
 use crate::candidates::Resolution;
 use crate::definition::{is_defined, own_target, plus_addend};
 use crate::entry::find_entry;
+use crate::records::check_records;
 use crate::resolutions::Resolutions;
 use crate::table::name_table;
 use crate::target::{CodePlace, Piece, Target};
@@ -42,7 +44,8 @@ impl<'a, 'b> Model for Resolved<'a, 'b> {
 }
 
 /// What the symbols of the files stand for, and where the program is entered; or the first name in first-seen order that has two GLOBAL
-/// definitions, or else why the entry is refused (ELF64, "Symbol Table").
+/// definitions, or else why the entry is refused (ELF64, "Symbol Table"), or else the first relocation record that is refused (ELFv2 ABI,
+/// "Relocation Types").
 pub fn resolve<'a, 'b>(
     alloc: Global,
     set: &'b ObjectSet<'a>,
@@ -58,11 +61,13 @@ pub fn resolve<'a, 'b>(
     let resolution = table.candidates(entry).resolution();
     let place = find_entry(alloc, &texts, entry, resolution)?;
     let names = Resolutions::new(alloc, set, table, numbers)?;
-    Ok(Resolved {
+    let resolved = Resolved {
         names,
         texts,
         entry: place,
-    })
+    };
+    check_records(alloc, &resolved)?;
+    Ok(resolved)
 }
 
 impl<'a, 'b> Resolved<'a, 'b> {
