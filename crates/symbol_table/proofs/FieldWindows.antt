@@ -7,7 +7,7 @@ use Rattle.std.proofs.lemmas.List.Filters.{length-filter_more}
 use Rattle.symbol_table.specs.declared.fields.RecordField.{RecordField}
 use Rattle.symbol_table.specs.Fields.{meets}
 use Rattle.symbol_table.specs.inside.Fields.{rank_of, AreHeld}
-use Rattle.symbol_table.proofs.FilteredLists.{filter_dropped, filter_taken, length-filter-take}
+use Rattle.symbol_table.specs.laws.FilteredLists.{filter_dropped, filter_taken, length-filter-take}
 
 -- a field that begins more than its width before a range has no bytes of it
 before_range : (own start width section from count low : ℕ) → width ≤ 8 → low ≡ from - 8 → own * 2 ^ 64 + start < section * 2 ^ 64 + low →

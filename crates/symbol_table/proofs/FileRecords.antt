@@ -16,7 +16,7 @@ use Rattle.reloc_fields.specs.Table.{line_of}
 use Rattle.symbol_table.specs.declared.fields.RecordField.{RecordField}
 use Rattle.symbol_table.specs.Fields.{kind_numbered, width_in, field_of, records_of, fields_of, meets, comes_before, overlaps_earlier}
 use Rattle.symbol_table.specs.inside.Fields.{IsFieldOf, AreFileFields, AreTwo, AreOnlyTwo}
-use Rattle.symbol_table.proofs.FilteredLists.{list_any-filter, length-filter-IsPermutation}
+use Rattle.symbol_table.specs.laws.FilteredLists.{list_any-filter, length-filter-IsPermutation}
 
 -- no field has more than eight bytes
 kind_narrow : (k : Kind) → (line_of k).width ≤ 8

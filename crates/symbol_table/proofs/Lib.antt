@@ -5,10 +5,8 @@ pub mod NameTables
 pub mod Numbers
 pub mod NumberedCommons
 pub mod KindNumbers
-pub mod FilteredLists
 pub mod PlaceOrder
 pub mod FieldWindows
 pub mod FileRecords
 pub mod EntryPlaces
 pub mod JudgedRecords
-pub mod RecordWalk

@@ -4,3 +4,6 @@ pub mod Definitions
 pub mod Targets
 pub mod Sections
 pub mod Prologue
+pub mod FilteredLists
+pub mod RecordWalk
+pub mod Records

@@ -7,6 +7,7 @@ mod commons;
 mod definition;
 mod entry;
 mod fields;
+mod laws;
 mod names;
 mod places;
 mod prologue;
@@ -19,6 +20,7 @@ mod table;
 mod target;
 mod text;
 
+pub use laws::{fields_are_apart, records_are_sound};
 pub use resolved::{Resolved, resolve};
 pub use target::{CodePlace, Piece, Target};
 

@@ -1,7 +1,7 @@
 use Rattle.std.proofs.Common.{◌≡◌, ◌-◌, length, sym, ap, ◌∙◌, arith}
 use Rattle.elf64_records.specs.First.{first_from}
 use Rattle.symbol_table.specs.inside.Records.{file_records_refusal}
-use Rattle.symbol_table.proofs.RecordWalk.{records_first}
+use Rattle.symbol_table.specs.laws.RecordWalk.{records_first}
 use Rattle.symbol_table.proofs.records.check_records.Goals as goal
 
 -- the walk past all records goes from file to file
