@@ -1,0 +1,5 @@
+-- Words of private contracts.
+pub mod Limits
+pub mod Numbered
+pub mod Ends
+pub mod Open

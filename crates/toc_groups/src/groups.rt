@@ -1,0 +1,185 @@
+// TOC groups: files that share one TOC base.
+ghost use Rattle.std.specs.Prelude.{◌≡◌, ◌<◌, ◌≤◌, ◌+◌, ◌^◌, ℕ, None, IfOk, OnOk, length, slice_index, take};
+ghost use Rattle.object_set.specs.Refusals.{set_refusal};
+ghost use Rattle.toc_groups.specs.Groups.{Group, group_after, tocs_of};
+ghost use Rattle.toc_groups.specs.inside.Numbered.{slot_list};
+ghost use Rattle.toc_groups.specs.inside.Ends.{AreEnds};
+ghost use Rattle.toc_groups.specs.inside.Open.{IsOpen, IsGroup, IsJoined, IsNumbered, AreGroups};
+
+use crate::extents::section_extent;
+use crate::slots::{GroupSlots, SlotRow};
+use crate::toc_ends::TocEnds;
+use object_set::{ObjectSet, Sort, SymbolId};
+use std::alloc::{AllocError, Global};
+
+/// The alignment of TOC groups in bytes.
+pub const GROUP_ALIGN: u64 = 0x100;
+
+/// How far the TOC base lies past its group's start, so that signed 16-bit offsets reach all of 64 KiB (ELFv2 ABI, 3.3 "TOC").
+pub const TOC_BIAS: u64 = 0x8000;
+
+/// A TOC group with all its files.
+#[derive(Drop)]
+pub struct TocGroup {
+    /// Its first file.
+    pub first: u32,
+    /// The symbols for which its slots were made.
+    pub slots: Vec<SymbolId>,
+    /// Its size in bytes.
+    pub size: u64,
+}
+
+/// A TOC group that files may still join.
+#[derive(Drop)]
+struct OpenGroup<'a, 'b> {
+    /// Its first file.
+    first: u32,
+    /// Its slots.
+    slots: GroupSlots<'a, 'b>,
+    /// Where its `.toc` sections end.
+    ends: TocEnds,
+    /// Its size in bytes.
+    size: u64,
+}
+
+/// What comes of a file that joins: its group, the numbers of its slots there, and the group before if that is full.
+#[derive(Drop)]
+struct Joined<'a, 'b> {
+    open_group: OpenGroup<'a, 'b>,
+    row: SlotRow,
+    full: Option<TocGroup>,
+}
+
+/// The TOC groups of all files.
+#[derive(Drop)]
+pub struct TocGroups {
+    /// The groups in order.
+    pub groups: Vec<TocGroup>,
+    /// The number of each file's group.
+    pub numbers: Vec<u32>,
+    /// The numbers of the slots of each file's symbols.
+    pub rows: Vec<SlotRow>,
+}
+
+impl<'a, 'b> OpenGroup<'a, 'b> {
+    /// A group that no file has joined.
+    fn none(alloc: Global, set: &'b ObjectSet<'a>, first: u32) -> Result<Self, AllocError>
+        ensures open_group { IfOk result (IsOpen set.now first) }
+        ensures first { IfOk result (λ group. group.first ≡ first) }
+    {
+        Ok(OpenGroup {
+            first,
+            slots: GroupSlots::none(alloc, set),
+            ends: TocEnds::none(alloc)?,
+            size: 0,
+        })
+    }
+
+    /// Takes in the `.toc` sections of a file.
+    fn add_tocs(&mut self, file: u32)
+        requires file { file < length self.old.slots.files }
+        requires low { (i : ℕ) → slice_index self.old.ends i < 2 ^ 61 }
+        ensures ends { (first n : ℕ) →
+            first + n ≡ file →
+            AreEnds (tocs_of self.old.slots.files first n) self.old.ends →
+            AreEnds (tocs_of self.old.slots.files first (n + 1)) self.new.ends }
+        ensures others { self.new ≡ record self.old { ends = self.new.ends } }
+    {
+        let set = self.slots.set();
+        for section in 0..set.view(file).section_count() {
+            if set.sort_of(file, section) == Sort::Toc {
+                self.ends.add(section_extent(set, file, section));
+            }
+        }
+    }
+
+    /// Takes in the next file, and gives the numbers of its slots.
+    fn add(&mut self, alloc: Global, file: u32) -> Result<SlotRow, AllocError>
+        requires file { file < length self.old.slots.files }
+        requires open_group { IsOpen self.old.slots.files file self.old }
+        ensures open_group { OnOk result (IsOpen self.old.slots.files (file + 1) self.new) }
+        ensures first { self.new.first ≡ self.old.first }
+        ensures row { IfOk result (λ row. (number n : ℕ) →
+            self.old.first + n ≡ file →
+            IsNumbered self.old.slots.files
+                (record { number = number; first = self.old.first; count = n + 1 }) file row) }
+    {
+        let row = self.slots.add_file(alloc, file)?;
+        self.add_tocs(file);
+        self.size = self.ends.behind_slots(self.slots.count());
+        Ok(row)
+    }
+
+    /// The group with its first so many slots and of this size.
+    fn whole(self, slots: u64, size: u64) -> TocGroup
+        requires { slots ≤ length self.slots.slots }
+        ensures first { result.first ≡ self.entry.first }
+        ensures slots { result.slots.items ≡ take slots self.entry.slots.slots }
+        ensures size { result.size ≡ size }
+    {
+        TocGroup {
+            first: self.first,
+            slots: self.slots.into_first(slots),
+            size,
+        }
+    }
+}
+
+/// Puts the next file into a group or, where the group would be longer than the span, begins the next one with it.
+fn join<'a, 'b>(
+    alloc: Global,
+    last: OpenGroup<'a, 'b>,
+    file: u32,
+    span: u64,
+) -> Result<Joined<'a, 'b>, AllocError>
+    requires file { file < length last.slots.files }
+    requires open_group { IsOpen last.slots.files file last }
+    requires first { last.first ≡ (group_after last.slots.files span file).first }
+    ensures { IfOk result (IsJoined last.slots.files span file) }
+{
+    let (slots, size) = (last.slots.count(), last.size);
+    let mut open_group = last;
+    let row = open_group.add(alloc, file)?;
+    if file == open_group.first || open_group.size <= span {
+        return Ok(Joined {
+            open_group,
+            row,
+            full: None,
+        });
+    }
+    let mut next = OpenGroup::none(alloc, open_group.slots.set(), file)?;
+    let row = next.add(alloc, file)?;
+    Ok(Joined {
+        open_group: next,
+        row,
+        full: Some(open_group.whole(slots, size)),
+    })
+}
+
+/// The TOC groups of files, none of which is longer than the span unless it has one file alone.
+pub fn toc_groups(alloc: Global, set: &ObjectSet, span: u64) -> Result<TocGroups, AllocError>
+    ensures { IfOk result (AreGroups set.now span) }
+{
+    let mut groups = Vec::new(alloc);
+    let mut numbers = Vec::new(alloc);
+    let mut rows = Vec::new(alloc);
+    let mut open_group = OpenGroup::none(alloc, set, 0)?;
+    for file in 0..set.file_count() {
+        let joined = join(alloc, open_group, file, span)?;
+        if let Some(group) = joined.full {
+            groups.push(group)?;
+        }
+        numbers.push(groups.len() as u32)?;
+        rows.push(joined.row)?;
+        open_group = joined.open_group;
+    }
+    if set.file_count() > 0 {
+        let (slots, size) = (open_group.slots.count(), open_group.size);
+        groups.push(open_group.whole(slots, size))?;
+    }
+    Ok(TocGroups {
+        groups,
+        numbers,
+        rows,
+    })
+}

@@ -1,0 +1,16 @@
+// Where the data of a link lies: TOC groups with their GOT slots (ELFv2 ABI, 3.3 "TOC" and "GOT"), and the addresses of all sections
+// and commons that are no text (ELF64, "Program Header"). All of it is a function of the sizes and alignments of the pieces and of what
+// the relocation records name; nothing here depends on how large text is.
+#![tactic(auto)]
+
+mod extents;
+mod groups;
+mod pieces;
+mod plan;
+mod slots;
+mod toc_ends;
+
+pub use plan::{DataPlan, lay_data};
+
+#[cfg(test)]
+mod tests;
