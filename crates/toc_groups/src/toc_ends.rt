@@ -1,7 +1,7 @@
 // Where the `.toc` sections of a TOC group end, however many slots come before them.
-ghost use Rattle.std.specs.Prelude.{◌≡◌, ◌<◌, ◌^◌, ◌*◌, ◌++◌, ◌∷◌, [], ℕ, List, IfOk, slice_index};
+ghost use Rattle.std.specs.Prelude.{◌≡◌, ◌<◌, ◌^◌, ◌*◌, ◌++◌, ◌∷◌, [], ℕ, List, IfOk, length, slice_index};
 ghost use Rattle.toc_groups.specs.declared.extents.Extent.{Extent};
-ghost use Rattle.toc_groups.specs.Runs.{run_end, IsFitExtent};
+ghost use Rattle.toc_groups.specs.Runs.{behind, run_end, IsFitExtent};
 ghost use Rattle.toc_groups.specs.inside.Ends.{AreEnds, AreTocExtents, AreLow};
 
 use crate::extents::{Extent, behind};
@@ -28,6 +28,20 @@ impl Model for TocEnds {
     ghost view = { λ e. e.ends.items };
 }
 
+/// Puts a section behind each of the ends.
+fn push_behind(ends: &mut Vec<u64>, section: Extent)
+    requires fit { IsFitExtent section }
+    requires size { section.size < 2 ^ 62 }
+    requires low { (i : ℕ) → i < length ends.old.items → slice_index ends.old.items i < 2 ^ 62 }
+    ensures length { length ends.new.items ≡ length ends.old.items }
+    ensures each { (i : ℕ) → i < length ends.old.items →
+        slice_index ends.new.items i ≡ behind (slice_index ends.old.items i) section }
+{
+    for i in 0..ends.len() {
+        ends[i] = behind(ends[i], section);
+    }
+}
+
 impl TocEnds {
     /// Those of no sections.
     pub fn none(alloc: Global) -> Result<TocEnds, AllocError>
@@ -48,9 +62,7 @@ impl TocEnds {
         ensures { (sections : List Extent) →
             AreEnds sections self.old → AreEnds (sections ++ section ∷ []) self.new }
     {
-        for i in 0..self.ends.len() {
-            self.ends[i] = behind(self.ends[i], section);
-        }
+        push_behind(&mut self.ends, section);
     }
 
     /// Where the sections end behind so many slots.
