@@ -19,11 +19,14 @@ is_got_load number = number == (line_of GotPcrel34).number
 abbrev pub symbol_id : ℕ → ℕ → SymbolId
 symbol_id file j = record { file = file; symbol = j }
 
--- the symbols that the first n records of section i of a file name for such loads
+-- the symbol that record k of section i of a file names for such a load
+abbrev pub named_at : ℕ → List ℕ → ℕ → ℕ → List SymbolId
+named_at file b i k = if is_got_load (r_type b i k) then symbol_id file (r_symbol b i k) ∷ [] else []
+
+-- those that the first n records of the section name
 abbrev pub named_by : ℕ → List ℕ → ℕ → ℕ → List SymbolId
 named_by file b i zero = []
-named_by file b i (suc n) =
-    named_by file b i n ++ (if is_got_load (r_type b i n) then symbol_id file (r_symbol b i n) ∷ [] else [])
+named_by file b i (suc n) = named_by file b i n ++ named_at file b i n
 
 -- those that all records of a file name, in record order
 abbrev pub named_walk : Walk SymbolId

@@ -8,8 +8,8 @@ ghost use Rattle.object_set.specs.declared.places.SymbolId.{SymbolId};
 ghost use Rattle.object_set.specs.Files.{file_at};
 ghost use Rattle.object_set.specs.Symbols.{is_local, name_of};
 ghost use Rattle.object_set.specs.Walks.{IsSymbol};
-ghost use Rattle.toc_groups.specs.Slots.{is_got_load, symbol_id, shares_slot, with_slot, with_slots, named_by, named_symbols};
-ghost use Rattle.toc_groups.specs.inside.Numbered.{SlotList, slot_list, is_symbol, IsNew, IsRow, Notes};
+ghost use Rattle.toc_groups.specs.Slots.{is_got_load, symbol_id, shares_slot, with_slot, named_at, named_by, named_symbols};
+ghost use Rattle.toc_groups.specs.inside.Numbered.{slot_list, is_symbol, IsNew, IsRow, Adds};
 
 use object_set::{ObjectSet, SymbolId};
 use reloc_fields::{Kind, kind_of};
@@ -24,7 +24,11 @@ pub const SLOT_SIZE: u64 = 8;
 fn is_got_load(number: u32) -> bool
     ensures { result ≡ is_got_load number }
 {
-    matches!(kind_of(number), Some(Kind::GotPcrel34))
+    match kind_of(number) {
+        Some(Kind::GotPcrel34) => true,
+        Some(_) => false,
+        None => false,
+    }
 }
 
 /// The numbers of the slots of a file's symbols in its TOC group, as whose list contracts see them.
@@ -170,15 +174,34 @@ impl<'a, 'b> GroupSlots<'a, 'b> {
     ) -> Result<(), AllocError>
         requires symbol { IsSymbol self.old.files (symbol_id file symbol) }
         requires row { IsRow self.old file row.old.items }
-        ensures slots { OnOk result (self.new ≡ slot_list self.old.files
-            (with_slot self.old.files self.old.slots (symbol_id file symbol))) }
-        ensures row { OnOk result (IsRow self.new file row.new.items) }
-        ensures named { OnOk result (
-            Notes (symbol_id file symbol ∷ []) row.old.items row.new.items) }
+        ensures { OnOk result (Adds
+            (symbol_id file symbol ∷ []) file self.old self.new row.old.items row.new.items) }
     {
         if row[symbol as usize].is_none() {
             let number = self.number(SymbolId { file, symbol })?;
             row[symbol as usize] = Some(number);
+        }
+        Ok(())
+    }
+
+    /// Takes in the symbol that a record names, if it is such a load.
+    fn add_record(
+        &mut self,
+        row: &mut Vec<Option<u64>>,
+        file: u32,
+        table: u32,
+        entry: u32,
+    ) -> Result<(), AllocError>
+        requires file { file < length self.old.files }
+        requires table { table < e_shnum (file_at self.old.files file) }
+        requires entry { entry < record_count (file_at self.old.files file) table }
+        requires row { IsRow self.old file row.old.items }
+        ensures { let named = named_at file (file_at self.old.files file) table entry in
+            OnOk result (Adds named file self.old self.new row.old.items row.new.items) }
+    {
+        let record = self.set.view(file).rela(table, entry);
+        if is_got_load(record.kind) {
+            self.add_symbol(row, file, record.symbol)?;
         }
         Ok(())
     }
@@ -193,21 +216,12 @@ impl<'a, 'b> GroupSlots<'a, 'b> {
         requires file { file < length self.old.files }
         requires table { table < e_shnum (file_at self.old.files file) }
         requires row { IsRow self.old file row.old.items }
-        ensures slots { let b = file_at self.old.files file in
+        ensures { let b = file_at self.old.files file in
             let named = named_by file b table (record_count b table) in
-            OnOk result (self.new ≡ slot_list self.old.files
-                (with_slots self.old.files self.old.slots named)) }
-        ensures row { OnOk result (IsRow self.new file row.new.items) }
-        ensures named { let b = file_at self.old.files file in
-            let named = named_by file b table (record_count b table) in
-            OnOk result (Notes named row.old.items row.new.items) }
+            OnOk result (Adds named file self.old self.new row.old.items row.new.items) }
     {
-        let view = self.set.view(file);
-        for entry in 0..view.record_count(table) {
-            let record = view.rela(table, entry);
-            if is_got_load(record.kind) {
-                self.add_symbol(row, file, record.symbol)?;
-            }
+        for entry in 0..self.set.view(file).record_count(table) {
+            self.add_record(row, file, table, entry)?;
         }
         Ok(())
     }
@@ -216,14 +230,12 @@ impl<'a, 'b> GroupSlots<'a, 'b> {
     pub fn add_file(&mut self, alloc: Global, file: u32) -> Result<SlotRow, AllocError>
         requires file { file < length self.old.files }
         requires new { (j : ℕ) → list_any (is_symbol file j) self.old.slots ≡ false }
-        ensures slots { OnOk result (self.new ≡ slot_list self.old.files
-            (with_slots self.old.files self.old.slots (named_symbols self.old.files file))) }
-        ensures row { IfOk result (IsRow self.new file) }
-        ensures named { IfOk result (Notes (named_symbols self.old.files file) []) }
+        ensures { let named = named_symbols self.old.files file in
+            IfOk result (Adds named file self.old self.new []) }
     {
-        let view = self.set.view(file);
-        let mut items = vec![in alloc; None; view.symbol_count() as usize]?;
-        for table in 0..view.section_count() {
+        let count = self.set.view(file).symbol_count();
+        let mut items = vec![in alloc; None; count as usize]?;
+        for table in 0..self.set.view(file).section_count() {
             self.add_table(&mut items, file, table)?;
         }
         Ok(SlotRow { items })

@@ -10,7 +10,7 @@ use Rattle.elf64_records.specs.Symbols.{symbol_count}
 use Rattle.object_set.specs.declared.places.SymbolId.{SymbolId}
 use Rattle.object_set.specs.Files.{file_at}
 use Rattle.object_set.specs.Symbols.{name_of, is_local}
-use Rattle.toc_groups.specs.Slots.{symbol_id, shares_slot}
+use Rattle.toc_groups.specs.Slots.{symbol_id, shares_slot, with_slots}
 
 -- files, and the slots of some of them
 pub record SlotList : Type 0 where
@@ -31,7 +31,7 @@ AreNamed files slots names =
 
 -- a slot was made for symbol j of a file
 abbrev pub is_symbol : ℕ → ℕ → SymbolId → Bool
-is_symbol file j s = s.file == file && s.symbol == j
+is_symbol file j s = file == s.file && j == s.symbol
 
 -- a symbol that only its file sees has no slot yet
 abbrev pub IsNew : SlotList → SymbolId → Type 0
@@ -49,3 +49,9 @@ pub record Notes (named : List SymbolId) (old new : List (Option ℕ)) : Type 0 
   pub each : (j : ℕ) →
       j < length new →
       is_some (slice_index_or new j None) ≡ (is_some (slice_index_or old j None) || list_any (λ s. s.symbol == j) named)
+
+-- these symbols of a file come to slots and to the numbers of its slots
+pub record Adds (named : List SymbolId) (file : ℕ) (old new : SlotList) (old_row new_row : List (Option ℕ)) : Type 0 where
+  pub slots : new ≡ slot_list old.files (with_slots old.files old.slots named)
+  pub row : IsRow new file new_row
+  pub noted : Notes named old_row new_row
