@@ -1,6 +1,7 @@
 -- A run of `.toc` sections that begins a whole turn later ends a whole turn later.
 use Rattle.std.proofs.Common.{ℕ, zero, suc, ◌≡◌, ◌<◌, ◌≤◌, ◌+◌, ◌-◌, ◌*◌, ◌/◌, ◌%◌, ◌^◌, inl, inr, List, [], ◌∷◌, length, get_or, Bool, true, false, ◌==◌}
 use Rattle.std.proofs.Common.{if◌then◌else◌, ap, sym, ◌∙◌, refl, arith}
+use Rattle.std.specs.List.{AllByRecursion}
 use Rattle.std.proofs.lemmas.Bool.{cases_lt}
 use Rattle.std.proofs.lemmas.Nat.{pow-add, pow_below, div-add-mod'}
 use Rattle.std.proofs.Math.Nat.{add-mul-div_right}
@@ -9,7 +10,7 @@ use Rattle.layout_rounds.specs.Shapes.{aligned}
 use Rattle.layout_rounds.proofs.Aligned.{power_pos}
 use Rattle.toc_groups.specs.declared.extents.Extent.{Extent}
 use Rattle.toc_groups.specs.Runs.{placed, behind, run_end}
-use Rattle.toc_groups.specs.inside.Ends.{IsTocExtent, AreTocExtents, AreEnds}
+use Rattle.toc_groups.specs.inside.Ends.{IsTocExtent, AreEnds}
 
 -- 256 is a multiple of each power of two up to it
 divides_turn : (a : ℕ) → IsPowerOfTwo a → a ≤ 256 → (m : ℕ) × (256 ≡ m * a)
@@ -45,15 +46,13 @@ behind_later n q piece fit =
     behind_case n q piece (piece.size == 0)
     (aligned_later n q piece.align turn.0 (power_pos piece.align fit.power) turn.1)
 
-pub run_later : (pieces : List Extent) (n q : ℕ) → AreTocExtents pieces → run_end (n + 256 * q) pieces ≡ run_end n pieces + 256 * q
+pub run_later : (pieces : List Extent) (n q : ℕ) → AllByRecursion IsTocExtent pieces → run_end (n + 256 * q) pieces ≡ run_end n pieces + 256 * q
 run_later [] n q are = refl
 run_later (x ∷ xs) n q are =
-    let first = behind_later n q x (are 0 (omega arith)) in
-    let rest : AreTocExtents xs = λ k within. are (suc k) (omega (arith, within)) in
-    ap (λ (e : ℕ). run_end e xs) first ∙ run_later xs (behind n x) q rest
+    ap (λ (e : ℕ). run_end e xs) (behind_later n q x are.0) ∙ run_later xs (behind n x) q are.1
 
 -- the ends behind so many slots give the end behind more of them
-pub ends_later : (sections : List Extent) (ends : List ℕ) (slots rest end : ℕ) → AreTocExtents sections → AreEnds sections ends →
+pub ends_later : (sections : List Extent) (ends : List ℕ) (slots rest end : ℕ) → AllByRecursion IsTocExtent sections → AreEnds sections ends →
     rest ≡ slots % 32 → get_or ends rest 0 ≡ end → 8 * (slots - rest) + end ≡ run_end (8 * slots) sections
 ends_later sections ends slots rest end fit are is read =
     let low : rest < 32 = omega (arith, is) in

@@ -3,12 +3,13 @@ ghost use Rattle.std.specs.Prelude.{◌≡◌, ◌≤◌, ◌<◌, ◌^◌, IfOk
 ghost use Rattle.elf64_records.specs.First.{Refuses};
 ghost use Rattle.elf64_records.specs.FileHeader.{e_shnum};
 ghost use Rattle.object_set.specs.Files.{file_at};
+ghost use Rattle.object_set.specs.Sections.{sort_of};
 ghost use Rattle.toc_groups.specs.Runs.{behind, placed, IsFitExtent};
-ghost use Rattle.toc_groups.specs.Sections.{section_extent};
+ghost use Rattle.toc_groups.specs.Sections.{same_sort, section_extent};
 ghost use Rattle.toc_groups.specs.inside.Limits.{past_limit};
 
 use elf64_exec::IMAGE_START;
-use object_set::{ObjectSet, Refusal};
+use object_set::{ObjectSet, Refusal, Sort};
 use ppc_bytes::align_up;
 
 /// How many bytes data may have, from the image's start to the end of the last piece that isn't empty.
@@ -26,6 +27,22 @@ pub struct Extent {
     pub align: u64,
 }
 
+/// Whether a section of a file is of a sort.
+pub fn is_of_sort(set: &ObjectSet, file: u32, section: u32, sort: Sort) -> bool
+    requires file { file < length set.now }
+    requires section { section < e_shnum (file_at set.now file) }
+    ensures { result ≡ same_sort (sort_of (file_at set.now file) section) sort }
+{
+    same_sort(set.sort_of(file, section), sort)
+}
+
+/// Whether two sorts are the same.
+fn same_sort(a: Sort, b: Sort) -> bool
+    ensures { result ≡ same_sort a b }
+{
+    a == b
+}
+
 /// The room of a section of a file.
 pub fn section_extent(set: &ObjectSet, file: u32, section: u32) -> Extent
     requires file { file < length set.now }
@@ -41,7 +58,7 @@ pub fn section_extent(set: &ObjectSet, file: u32, section: u32) -> Extent
 /// Where what is laid out ends with a piece more. An empty one takes no room.
 pub fn behind(end: u64, piece: Extent) -> u64
     requires fit { IsFitExtent piece }
-    requires end { end < 2 ^ 62 }
+    requires end { end < 2 ^ 63 }
     requires size { piece.size < 2 ^ 62 }
     ensures { result ≡ behind end piece }
 {

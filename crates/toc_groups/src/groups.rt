@@ -1,12 +1,17 @@
 // TOC groups: files that share one TOC base.
-ghost use Rattle.std.specs.Prelude.{◌≡◌, ◌<◌, ◌≤◌, ◌+◌, ◌^◌, ℕ, None, IfOk, OnOk, length, slice_index, take};
+ghost use Rattle.std.specs.Prelude.{◌≡◌, ◌<◌, ◌≤◌, ◌+◌, ◌++◌, ℕ, suc, List, None, IfOk, OnOk, length, take, option_to_list};
+ghost use Rattle.elf64_records.specs.FileHeader.{e_shnum};
+ghost use Rattle.object_set.specs.declared.sort.Sort.TheVariants.{Toc};
+ghost use Rattle.object_set.specs.Files.{file_at};
 ghost use Rattle.object_set.specs.Refusals.{set_refusal};
-ghost use Rattle.toc_groups.specs.Groups.{Group, group_after, tocs_of};
-ghost use Rattle.toc_groups.specs.inside.Numbered.{slot_list};
-ghost use Rattle.toc_groups.specs.inside.Ends.{AreEnds};
-ghost use Rattle.toc_groups.specs.inside.Open.{IsOpen, IsGroup, IsJoined, IsNumbered, AreGroups};
+ghost use Rattle.object_set.specs.Walks.{items_in};
+ghost use Rattle.toc_groups.specs.declared.extents.Extent.{Extent};
+ghost use Rattle.toc_groups.specs.Sections.{extent_at, sort_walk};
+ghost use Rattle.toc_groups.specs.Groups.{group_after};
+ghost use Rattle.toc_groups.specs.inside.Ends.{AreEnds, AreLow, AreFileEnds};
+ghost use Rattle.toc_groups.specs.inside.Open.{IsOpen, IsJoined, HaveJoined, IsNumbered, AreGroups};
 
-use crate::extents::section_extent;
+use crate::extents::{is_of_sort, section_extent};
 use crate::slots::{GroupSlots, SlotRow};
 use crate::toc_ends::TocEnds;
 use object_set::{ObjectSet, Sort, SymbolId};
@@ -61,6 +66,35 @@ pub struct TocGroups {
     pub rows: Vec<SlotRow>,
 }
 
+/// Takes in a section of a file, if it is a `.toc`.
+fn add_toc(ends: &mut TocEnds, set: &ObjectSet, file: u32, section: u32)
+    requires file { file < length set.now }
+    requires section { section < e_shnum (file_at set.now file) }
+    requires whole { set_refusal set.now ≡ None }
+    requires low { AreLow ends.old }
+    ensures { (sections : List Extent) → AreEnds sections ends.old →
+        AreEnds (sections ++ extent_at Toc file (file_at set.now file) section) ends.new }
+{
+    if is_of_sort(set, file, section, Sort::Toc) {
+        ends.add(section_extent(set, file, section));
+    }
+}
+
+/// Takes in the `.toc` sections of the next file of a group.
+fn add_tocs(ends: &mut TocEnds, set: &ObjectSet, file: u32)
+    requires file { file < length set.now }
+    requires few { length set.now ≤ 4096 }
+    requires whole { set_refusal set.now ≡ None }
+    requires ends { AreFileEnds set.now file ends.old }
+    ensures { let b = file_at set.now file in
+        (sections : List Extent) → AreEnds sections ends.old →
+        AreEnds (sections ++ items_in (sort_walk Toc) file b (e_shnum b)) ends.new }
+{
+    for section in 0..set.view(file).section_count() {
+        add_toc(ends, set, file, section);
+    }
+}
+
 impl<'a, 'b> OpenGroup<'a, 'b> {
     /// A group that no file has joined.
     fn none(alloc: Global, set: &'b ObjectSet<'a>, first: u32) -> Result<Self, AllocError>
@@ -75,37 +109,21 @@ impl<'a, 'b> OpenGroup<'a, 'b> {
         })
     }
 
-    /// Takes in the `.toc` sections of a file.
-    fn add_tocs(&mut self, file: u32)
-        requires file { file < length self.old.slots.files }
-        requires low { (i : ℕ) → slice_index self.old.ends i < 2 ^ 61 }
-        ensures ends { (first n : ℕ) →
-            first + n ≡ file →
-            AreEnds (tocs_of self.old.slots.files first n) self.old.ends →
-            AreEnds (tocs_of self.old.slots.files first (n + 1)) self.new.ends }
-        ensures others { self.new ≡ record self.old { ends = self.new.ends } }
-    {
-        let set = self.slots.set();
-        for section in 0..set.view(file).section_count() {
-            if set.sort_of(file, section) == Sort::Toc {
-                self.ends.add(section_extent(set, file, section));
-            }
-        }
-    }
-
     /// Takes in the next file, and gives the numbers of its slots.
     fn add(&mut self, alloc: Global, file: u32) -> Result<SlotRow, AllocError>
         requires file { file < length self.old.slots.files }
+        requires few { length self.old.slots.files ≤ 4096 }
+        requires whole { set_refusal self.old.slots.files ≡ None }
         requires open_group { IsOpen self.old.slots.files file self.old }
         ensures open_group { OnOk result (IsOpen self.old.slots.files (file + 1) self.new) }
         ensures first { self.new.first ≡ self.old.first }
         ensures row { IfOk result (λ row. (number n : ℕ) →
             self.old.first + n ≡ file →
             IsNumbered self.old.slots.files
-                (record { number = number; first = self.old.first; count = n + 1 }) file row) }
+                (record { number = number; first = self.old.first; count = suc n }) file row) }
     {
         let row = self.slots.add_file(alloc, file)?;
-        self.add_tocs(file);
+        add_tocs(&mut self.ends, self.slots.set(), file);
         self.size = self.ends.behind_slots(self.slots.count());
         Ok(row)
     }
@@ -133,9 +151,11 @@ fn join<'a, 'b>(
     span: u64,
 ) -> Result<Joined<'a, 'b>, AllocError>
     requires file { file < length last.slots.files }
+    requires few { length last.slots.files ≤ 4096 }
+    requires whole { set_refusal last.slots.files ≡ None }
     requires open_group { IsOpen last.slots.files file last }
     requires first { last.first ≡ (group_after last.slots.files span file).first }
-    ensures { IfOk result (IsJoined last.slots.files span file) }
+    ensures { IfOk result (IsJoined last.entry.slots.files span file) }
 {
     let (slots, size) = (last.slots.count(), last.size);
     let mut open_group = last;
@@ -156,30 +176,64 @@ fn join<'a, 'b>(
     })
 }
 
-/// The TOC groups of files, none of which is longer than the span unless it has one file alone.
-pub fn toc_groups(alloc: Global, set: &ObjectSet, span: u64) -> Result<TocGroups, AllocError>
-    ensures { IfOk result (AreGroups set.now span) }
+/// Puts a group behind others, where it is full.
+fn push_full(groups: &mut Vec<TocGroup>, full: Option<TocGroup>) -> Result<(), AllocError>
+    ensures { OnOk result (groups.new.items ≡ groups.old.items ++ option_to_list full) }
+{
+    if let Some(group) = full {
+        groups.push(group)?;
+    }
+    Ok(())
+}
+
+/// The groups of files, the last of which is still open.
+#[derive(Drop)]
+struct AllJoined<'a, 'b> {
+    laid: TocGroups,
+    last: OpenGroup<'a, 'b>,
+}
+
+/// Puts all files into groups.
+fn join_all<'a, 'b>(
+    alloc: Global,
+    set: &'b ObjectSet<'a>,
+    span: u64,
+) -> Result<AllJoined<'a, 'b>, AllocError>
+    ensures { IfOk result (HaveJoined set.now span) }
 {
     let mut groups = Vec::new(alloc);
     let mut numbers = Vec::new(alloc);
     let mut rows = Vec::new(alloc);
-    let mut open_group = OpenGroup::none(alloc, set, 0)?;
+    let mut last = OpenGroup::none(alloc, set, 0)?;
     for file in 0..set.file_count() {
-        let joined = join(alloc, open_group, file, span)?;
-        if let Some(group) = joined.full {
-            groups.push(group)?;
-        }
+        let Joined {
+            open_group,
+            row,
+            full,
+        } = join(alloc, last, file, span)?;
+        push_full(&mut groups, full)?;
         numbers.push(groups.len() as u32)?;
-        rows.push(joined.row)?;
-        open_group = joined.open_group;
+        rows.push(row)?;
+        last = open_group;
     }
-    if set.file_count() > 0 {
-        let (slots, size) = (open_group.slots.count(), open_group.size);
-        groups.push(open_group.whole(slots, size))?;
-    }
-    Ok(TocGroups {
+    let laid = TocGroups {
         groups,
         numbers,
         rows,
-    })
+    };
+    Ok(AllJoined { laid, last })
+}
+
+/// The TOC groups of files, none of which is longer than the span unless it has one file alone.
+pub fn toc_groups(alloc: Global, set: &ObjectSet, span: u64) -> Result<TocGroups, AllocError>
+    ensures { IfOk result (AreGroups set.now span) }
+{
+    let AllJoined { laid, last } = join_all(alloc, set, span)?;
+    let mut laid = laid;
+    if laid.numbers.is_empty() {
+        return Ok(laid);
+    }
+    let (slots, size) = (last.slots.count(), last.size);
+    laid.groups.push(last.whole(slots, size))?;
+    Ok(laid)
 }

@@ -1,7 +1,7 @@
 // Where sections and commons lie.
 ghost use Rattle.std.specs.Prelude.{◌≡◌, ◌<◌, ◌≤◌, IfOk, OnOk, length};
 
-use crate::extents::{Extent, place, section_extent};
+use crate::extents::{Extent, is_of_sort, place, section_extent};
 use crate::groups::{GROUP_ALIGN, TocGroup, TocGroups};
 use crate::slots::SLOT_SIZE;
 use elf64_exec::{IMAGE_START, PAGE};
@@ -15,7 +15,7 @@ fn sections_end(set: &ObjectSet, sort: Sort, start: u64) -> Result<u64, Refusal>
     let mut end = start;
     for file in 0..set.file_count() {
         for section in 0..set.view(file).section_count() {
-            if set.sort_of(file, section) == sort {
+            if is_of_sort(set, file, section, sort) {
                 place(&mut end, section_extent(set, file, section))?;
             }
         }

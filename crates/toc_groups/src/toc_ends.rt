@@ -1,8 +1,9 @@
 // Where the `.toc` sections of a TOC group end, however many slots come before them.
-ghost use Rattle.std.specs.Prelude.{◌≡◌, ◌<◌, ◌^◌, ◌*◌, ◌++◌, ◌∷◌, [], ℕ, List, IfOk, length, slice_index};
+ghost use Rattle.std.specs.Prelude.{◌≡◌, ◌<◌, ◌≤◌, ◌^◌, ◌*◌, ◌++◌, ◌∷◌, [], ℕ, List, IfOk, length, slice_index};
+ghost use Rattle.std.specs.List.{AllByRecursion};
 ghost use Rattle.toc_groups.specs.declared.extents.Extent.{Extent};
 ghost use Rattle.toc_groups.specs.Runs.{behind, run_end, IsFitExtent};
-ghost use Rattle.toc_groups.specs.inside.Ends.{AreEnds, AreTocExtents, AreLow};
+ghost use Rattle.toc_groups.specs.inside.Ends.{AreEnds, AreLow, IsTocExtent};
 
 use crate::extents::{Extent, behind};
 use crate::slots::SLOT_SIZE;
@@ -32,7 +33,7 @@ impl Model for TocEnds {
 fn push_behind(ends: &mut Vec<u64>, section: Extent)
     requires fit { IsFitExtent section }
     requires size { section.size < 2 ^ 62 }
-    requires low { (i : ℕ) → i < length ends.old.items → slice_index ends.old.items i < 2 ^ 62 }
+    requires low { (i : ℕ) → i < length ends.old.items → slice_index ends.old.items i < 2 ^ 63 }
     ensures length { length ends.new.items ≡ length ends.old.items }
     ensures each { (i : ℕ) → i < length ends.old.items →
         slice_index ends.new.items i ≡ behind (slice_index ends.old.items i) section }
@@ -67,10 +68,10 @@ impl TocEnds {
 
     /// Where the sections end behind so many slots.
     pub fn behind_slots(&self, slots: u64) -> u64
-        requires slots { slots < 2 ^ 58 }
+        requires slots { slots ≤ 2 ^ 58 }
         requires low { AreLow self.now }
         ensures { (sections : List Extent) →
-            AreTocExtents sections →
+            AllByRecursion IsTocExtent sections →
             AreEnds sections self.now →
             result ≡ run_end (SLOT_SIZE * slots) sections }
     {

@@ -6,6 +6,7 @@ use Rattle.toc_groups.specs.declared.groups.TocGroup.{TocGroup}
 use Rattle.toc_groups.specs.declared.groups.OpenGroup.{OpenGroup}
 use Rattle.toc_groups.specs.declared.groups.Joined.{Joined}
 use Rattle.toc_groups.specs.declared.groups.TocGroups.{TocGroups}
+use Rattle.toc_groups.specs.declared.groups.AllJoined.{AllJoined}
 use Rattle.toc_groups.specs.Slots.{slots_of, named_symbols}
 use Rattle.toc_groups.specs.Groups.{Group, tocs_of, group_size, group_after, group_with, group_number, group_among, group_count}
 use Rattle.toc_groups.specs.inside.Numbered.{slot_list, IsRow, Notes}
@@ -27,7 +28,7 @@ pub record IsGroup (files : List (List ℕ)) (group : Group) (whole : TocGroup) 
 
 -- a row has the numbers of the slots of the symbols that loads of a file name
 pub record IsNumbered (files : List (List ℕ)) (group : Group) (file : ℕ) (row : List (Option ℕ)) : Type 0 where
-  pub row : IsRow (slot_list files (slots_of files group.first group.count)) file row
+  pub is_row : IsRow (slot_list files (slots_of files group.first group.count)) file row
   pub named : Notes (named_symbols files file) [] row
 
 module _ (files : List (List ℕ)) (span : ℕ) where
@@ -48,15 +49,24 @@ module _ (files : List (List ℕ)) (span : ℕ) where
   -- the groups that are full when the first n files have joined, the number of each of these files' groups, and their slots
   pub record AreJoined (n : ℕ) (groups : List TocGroup) (numbers : List ℕ) (rows : List (List (Option ℕ))) : Type 0 where
     pub count : length groups ≡ (group_after files span n).number
-    pub groups : (g : ℕ) (whole : TocGroup) → slice_get groups g ≡ Some whole → IsGroup files (group_among files span g n) whole
-    pub numbers : numbers ≡ map (group_number files span) (range_with_len 0 n)
+    pub each : (g : ℕ) (whole : TocGroup) → slice_get groups g ≡ Some whole → IsGroup files (group_among files span g n) whole
+    pub numbers_are : numbers ≡ map (group_number files span) (range_with_len 0 n)
     pub row_count : length rows ≡ n
-    pub rows : (file : ℕ) (row : List (Option ℕ)) → slice_get rows file ≡ Some row → IsNumbered files (group_with files span file) file row
+    pub numbered : (file : ℕ) (row : List (Option ℕ)) → slice_get rows file ≡ Some row → IsNumbered files (group_with files span file) file row
+
+  -- all files have joined
+  pub record HaveJoined (all : AllJoined) : Type 0 where
+    pub open_group : IsOpen files (length files) all.last
+    pub files_are : all.last.slots.files ≡ files
+    pub first : all.last.first ≡ (group_after files span (length files)).first
+    pub joined : AreJoined (length files) all.laid.groups.items all.laid.numbers.items all.laid.rows.items
 
   -- the groups of all files
   pub record AreGroups (laid : TocGroups) : Type 0 where
     pub count : length laid.groups.items ≡ group_count files span
-    pub groups : (g : ℕ) (whole : TocGroup) → slice_get laid.groups.items g ≡ Some whole → IsGroup files (group_among files span g (length files)) whole
-    pub numbers : laid.numbers.items ≡ map (group_number files span) (range_with_len 0 (length files))
+    pub each : (g : ℕ) (whole : TocGroup) → slice_get laid.groups.items g ≡ Some whole →
+        IsGroup files (group_among files span g (length files)) whole
+    pub numbers_are : laid.numbers.items ≡ map (group_number files span) (range_with_len 0 (length files))
     pub row_count : length laid.rows.items ≡ length files
-    pub rows : (file : ℕ) (row : List (Option ℕ)) → slice_get laid.rows.items file ≡ Some row → IsNumbered files (group_with files span file) file row
+    pub numbered : (file : ℕ) (row : List (Option ℕ)) → slice_get laid.rows.items file ≡ Some row →
+        IsNumbered files (group_with files span file) file row
