@@ -20,10 +20,10 @@ use Rattle.toc_groups.specs.inside.Numbered.{SlotList, slot_list}
 use Rattle.toc_groups.specs.inside.Open.{IsOpen, IsGroup, IsNumbered, IsFull, IsJoined, AreJoined, AreGroups}
 use Rattle.toc_groups.proofs.Slotting.{take_extended, slots_extend}
 
-abbrev group : ℕ → ℕ → ℕ → Group
+abbrev pub group : ℕ → ℕ → ℕ → Group
 group number first count = record { number = number; first = first; count = count }
 
-abbrev either : Group → ℕ → Bool → Group
+abbrev pub either : Group → ℕ → Bool → Group
 either last file stays = if stays then group last.number last.first (suc last.count) else group (suc last.number) file 1
 
 end_case : (last : Group) (file : ℕ) (stays : Bool) → last.first + last.count ≡ file →
@@ -309,12 +309,14 @@ module _ (files : List (List ℕ)) (span : ℕ) where
   pub all_joined : (before : TocGroups) (whole : TocGroup) (laid : TocGroups) →
       AreJoined files span (length files) before.groups.items before.numbers.items before.rows.items → 0 < length files →
       IsGroup files (group_after files span (length files)) whole → laid.groups.items ≡ before.groups.items ++ whole ∷ [] →
-      laid.numbers.items ≡ before.numbers.items → laid.rows.items ≡ before.rows.items → AreGroups files span laid
-  all_joined before whole laid are some is items laid_numbers laid_rows =
+      laid.numbers.items ≡ before.numbers.items → laid.rows.items ≡ before.rows.items → laid.span ≡ span →
+      AreGroups files span laid
+  all_joined before whole laid are some is items laid_numbers laid_rows laid_span =
       let n = length files in
       let last = group_after files span n in
       let count : 0 < last.count = last_some n some in
       record {
+        span_is = laid_span;
         count = ap (λ (l : List TocGroup). length l) items ∙ length-append before.groups.items (whole ∷ [])
             ∙ (let e : length before.groups.items + 1 ≡ suc last.number = omega (arith, are.count) in e) ∙ sym (count_after n some);
         each = λ g w found.
@@ -334,12 +336,13 @@ module _ (files : List (List ℕ)) (span : ℕ) where
   -- where there are no files, there are no groups
   pub none_at_all : (laid : TocGroups) →
       AreJoined files span (length files) laid.groups.items laid.numbers.items laid.rows.items → length laid.numbers.items ≡ 0 →
-      AreGroups files span laid
-  none_at_all laid are none =
+      laid.span ≡ span → AreGroups files span laid
+  none_at_all laid are none laid_span =
       let all = ap (λ (l : List ℕ). length l) are.numbers_are ∙ length-map-range_with_len (group_number files span) 0 (length files) in
       let files_none : length files ≡ 0 = omega (arith, all, none) in
       let number : (group_after files span (length files)).number ≡ 0 = ap (λ (m : ℕ). (group_after files span m).number) files_none in
       record {
+        span_is = laid_span;
         count = are.count ∙ number ∙ sym (ap (groups_after files span) files_none);
         each = are.each;
         numbers_are = are.numbers_are;

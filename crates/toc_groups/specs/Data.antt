@@ -30,17 +30,17 @@ use Rattle.toc_groups.specs.Sections.{section_extent, sort_walk, sections_of, se
 use Rattle.toc_groups.specs.Slots.{symbol_id, shares_slot, slots_of, names_symbol}
 use Rattle.toc_groups.specs.Groups.{tocs_of, slot_bytes, group_with, group_number, group_at, group_extents}
 
+-- the segment that is only read begins where the image does
+abbrev pub read_only_end : List (List ℕ) → ℕ
+read_only_end files = run_end IMAGE_START (sections_of files ReadOnly)
+
+-- the one that is written begins at the next page, with the TOC groups
+abbrev pub writable_start : List (List ℕ) → ℕ
+writable_start files = aligned (read_only_end files) PAGE
+
 module _ (files : List (List ℕ)) (span : ℕ) where
-  -- the segment that is only read begins where the image does
-  abbrev pub read_only_end : ℕ
-  read_only_end = run_end IMAGE_START (sections_of files ReadOnly)
-
-  -- the one that is written begins at the next page, with the TOC groups
-  abbrev pub writable_start : ℕ
-  writable_start = aligned read_only_end PAGE
-
   abbrev pub groups_end : ℕ
-  groups_end = run_end writable_start (group_extents files span)
+  groups_end = run_end (writable_start files) (group_extents files span)
 
   abbrev pub writable_end : ℕ
   writable_end = run_end groups_end (sections_of files Writable)
@@ -53,7 +53,7 @@ module _ (files : List (List ℕ)) (span : ℕ) where
 
   -- the end of the last piece that isn't empty, in the segment that is written or, where that has none, in the one before
   abbrev pub data_end : ℕ
-  data_end = if commons_end == writable_start then read_only_end else commons_end
+  data_end = if commons_end == writable_start files then read_only_end files else commons_end
 
   -- text begins at the next page
   abbrev pub text_start : ℕ
@@ -61,7 +61,7 @@ module _ (files : List (List ℕ)) (span : ℕ) where
 
   -- where group g begins
   abbrev pub group_start : ℕ → ℕ
-  group_start g = run_place writable_start (group_extents files span) g
+  group_start g = run_place (writable_start files) (group_extents files span) g
 
   -- the TOC base of a file's group: past its start by the bias of a signed 16-bit offset
   abbrev pub base_of : ℕ → ℕ

@@ -1,6 +1,6 @@
 -- TOC groups: the files that share one TOC base (ELFv2 ABI, 3.3 "TOC"). A 16-bit offset from the base reaches so many bytes, the TOC
 -- span; so files join a group while it isn't longer.
-use Rattle.std.specs.Prelude.{ℕ, zero, suc, ◌+◌, ◌*◌, List, [], ◌++◌, ◌||◌, ◌==◌, nat_le, length, map, if◌then◌else◌}
+use Rattle.std.specs.Prelude.{◌≡◌, ℕ, zero, suc, ◌+◌, ◌*◌, ◌%◌, ◌≤◌, List, [], ◌++◌, ◌||◌, ◌==◌, nat_le, length, map, if◌then◌else◌}
 use Rattle.std.specs.List.{range_with_len}
 use Rattle.elf64_records.specs.FileHeader.{e_shnum}
 use Rattle.object_set.specs.declared.sort.Sort.TheVariants.{Toc}
@@ -79,3 +79,9 @@ module _ (files : List (List ℕ)) (span : ℕ) where
 
   abbrev pub group_extents : List Extent
   group_extents = map group_extent (range_with_len 0 group_count)
+
+-- a TOC span that may be asked for
+pub record IsTocSpan (span : ℕ) : Type 0 where
+  pub whole : span % 8 ≡ 0
+  pub least : 16 ≤ span
+  pub most : span ≤ 0x10000

@@ -12,7 +12,7 @@ use Rattle.symbol_table.specs.declared.target.Target.TheVariants.{Data, Code, Nu
 use Rattle.symbol_table.specs.Targets.{plus_addend}
 use Rattle.toc_groups.specs.declared.slots.TheConstants.{SLOT_SIZE}
 use Rattle.toc_groups.specs.Groups.{group_number, group_count}
-use Rattle.toc_groups.specs.Data.{group_start, base_of, piece_addresses, slot_number, text_start}
+use Rattle.toc_groups.specs.Data.{group_start, base_of, piece_addresses, slot_row, text_start}
 
 -- the TOC group and the TOC base of each file; the addresses of all sections and commons, and how many of them come before the sections
 -- of each file and before the commons; where each group starts, and the numbers of the slots of each file's symbols; the start of text
@@ -66,6 +66,11 @@ address_in plan (WeakNone addend) = Some (plus_addend 0 addend)
 -- the numbers of the slots of a file's symbols
 abbrev pub row_in : LaidData → ℕ → List (Option ℕ)
 row_in plan file = slice_index_or plan.slots file []
+
+-- a symbol of one of the files
+pub record IsLaidSymbol (plan : LaidData) (file j : ℕ) : Type 0 where
+  pub file_in : file < length plan.groups
+  pub within : j < length (row_in plan file)
 
 -- where the slot of symbol j of a file lies, where a load of that file names the symbol
 abbrev pub slot_in : LaidData → ℕ → ℕ → Option ℕ

@@ -3,3 +3,5 @@ pub mod Limits
 pub mod Numbered
 pub mod Ends
 pub mod Open
+pub mod Laid
+pub mod Plans

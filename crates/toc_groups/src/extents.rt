@@ -1,5 +1,5 @@
 // The room that a piece of data takes, and where it lies behind others.
-ghost use Rattle.std.specs.Prelude.{◌≡◌, ◌≤◌, ◌<◌, ◌^◌, IfOk, OnOk, length};
+ghost use Rattle.std.specs.Prelude.{◌≡◌, ◌≤◌, ◌<◌, ◌^◌, nat_le, IfOk, OnOk, length};
 ghost use Rattle.elf64_records.specs.First.{Refuses};
 ghost use Rattle.elf64_records.specs.FileHeader.{e_shnum};
 ghost use Rattle.object_set.specs.Files.{file_at};
@@ -69,6 +69,28 @@ pub fn behind(end: u64, piece: Extent) -> u64
     }
 }
 
+/// Whether data has room for a piece more.
+fn has_room(end: u64, piece: Extent) -> bool
+    requires fit { IsFitExtent piece }
+    requires low { end ≤ DATA_END }
+    ensures { result ≡ nat_le (behind end piece) DATA_END }
+{
+    piece.size <= DATA_END && behind(end, piece) <= DATA_END
+}
+
+/// Lays out a piece behind what ends here, and gives its address.
+pub fn lay(end: &mut u64, piece: Extent) -> u64
+    requires fit { IsFitExtent piece }
+    requires low { end.old ≤ DATA_END }
+    requires room { behind end.old piece ≤ DATA_END }
+    ensures address { result ≡ placed end.old piece }
+    ensures end { end.new ≡ behind end.old piece }
+{
+    let address = align_up(*end, piece.align);
+    *end = behind(*end, piece);
+    address
+}
+
 /// Lays out a piece behind what ends here, and gives its address; or data is too big.
 pub fn place(end: &mut u64, piece: Extent) -> Result<u64, Refusal>
     requires fit { IsFitExtent piece }
@@ -77,13 +99,8 @@ pub fn place(end: &mut u64, piece: Extent) -> Result<u64, Refusal>
     ensures address { IfOk result (λ address. address ≡ placed end.old piece) }
     ensures end { OnOk result (end.new ≡ behind end.old piece) }
 {
-    if piece.size > DATA_END {
+    if !has_room(*end, piece) {
         return Err(Refusal::DataTooBig);
     }
-    let address = align_up(*end, piece.align);
-    *end = behind(*end, piece);
-    if *end > DATA_END {
-        return Err(Refusal::DataTooBig);
-    }
-    Ok(address)
+    Ok(lay(end, piece))
 }

@@ -58,6 +58,8 @@ struct Joined<'a, 'b> {
 /// The TOC groups of all files.
 #[derive(Drop)]
 pub struct TocGroups {
+    /// The TOC span for which they were made.
+    pub span: u64,
     /// The groups in order.
     pub groups: Vec<TocGroup>,
     /// The number of each file's group.
@@ -217,6 +219,7 @@ fn join_all<'a, 'b>(
         last = open_group;
     }
     let laid = TocGroups {
+        span,
         groups,
         numbers,
         rows,

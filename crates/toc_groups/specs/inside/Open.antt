@@ -56,6 +56,7 @@ module _ (files : List (List ℕ)) (span : ℕ) where
 
   -- all files have joined
   pub record HaveJoined (all : AllJoined) : Type 0 where
+    pub span_is : all.laid.span ≡ span
     pub open_group : IsOpen files (length files) all.last
     pub files_are : all.last.slots.files ≡ files
     pub first : all.last.first ≡ (group_after files span (length files)).first
@@ -63,6 +64,7 @@ module _ (files : List (List ℕ)) (span : ℕ) where
 
   -- the groups of all files
   pub record AreGroups (laid : TocGroups) : Type 0 where
+    pub span_is : laid.span ≡ span
     pub count : length laid.groups.items ≡ group_count files span
     pub each : (g : ℕ) (whole : TocGroup) → slice_get laid.groups.items g ≡ Some whole →
         IsGroup files (group_among files span g (length files)) whole

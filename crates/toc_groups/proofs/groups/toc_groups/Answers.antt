@@ -12,5 +12,5 @@ returns c =
     let whole = last_whole files c.args.span all.last c.whole.result c.count-slots.result all.last.size have.open_group have.first
     c.count-slots.ensures refl c.whole.ensures.first c.whole.ensures.slots c.whole.ensures.size in
     all_joined files c.args.span all.laid c.whole.result
-    (record { groups = c.push.new.self; numbers = all.laid.numbers; rows = all.laid.rows }) have.joined some whole
-    c.in_ok-push.ensures.items refl refl
+    (record { span = all.laid.span; groups = c.push.new.self; numbers = all.laid.numbers; rows = all.laid.rows }) have.joined some whole
+    c.in_ok-push.ensures.items refl refl have.span_is

@@ -1,6 +1,6 @@
 -- returns-clause-address: the address is the least multiple of the alignment.
 use Rattle.toc_groups.proofs.Runs.{placed_is}
-use Rattle.toc_groups.proofs.extents.place.Goals as goal
+use Rattle.toc_groups.proofs.extents.lay.Goals as goal
 
 pub returns-clause-address : goal.returns-clause-address
 returns-clause-address c =
