@@ -266,7 +266,8 @@ struct Runs {
 
 /// Lays out the runs of sections; or data is too big.
 fn lay_runs(alloc: Global, set: &ObjectSet, laid: &TocGroups) -> Result<Runs, Refusal>
-    requires { AreGroups set.now laid.now.span laid.now }
+    requires whole { set_refusal set.now ≡ None }
+    requires groups { AreGroups set.now laid.now.span laid.now }
     ensures refusal { Refusing result (data_refusal set.now laid.now.span) }
     ensures runs { IfOk result (AreRuns set.now laid.now.span) }
 {
@@ -310,6 +311,8 @@ pub fn lay_pieces(alloc: Global, res: &Resolved, laid: &TocGroups) -> Result<Lai
     ensures pieces { IfOk result (AreLaid res.now.files laid.now.span) }
 {
     let set = res.set();
+    // none of the files is refused
+    let _files = set.file_count();
     let runs = lay_runs(alloc, set, laid)?;
     let mut addresses =
         section_addresses(alloc, set, laid, runs.starts.as_slice(), runs.first)?;
