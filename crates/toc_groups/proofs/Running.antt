@@ -28,7 +28,7 @@ use Rattle.toc_groups.specs.inside.Limits.{past_limit}
 use Rattle.toc_groups.specs.inside.Laid.{room_of, AreStarts, AreGroupStarts, AreRuns, AreAddresses, AreLaid}
 use Rattle.toc_groups.specs.inside.Open.{IsGroup, AreGroups}
 use Rattle.toc_groups.proofs.Commons.{commons_fit}
-use Rattle.toc_groups.proofs.Laying.{aligned_least, run_grows, fit_before, passed, within_limit}
+use Rattle.toc_groups.proofs.Laying.{aligned_least, run_grows, fit_before, passed}
 use Rattle.toc_groups.proofs.Placing.{groups_fit, address_count}
 
 -- the next page of what ends before data's end does so too
@@ -98,16 +98,8 @@ module _ (files : List (List ℕ)) (span : ℕ) where
       omega (arith, high)
   end_case end read_only start false test over is = omega (arith, over)
 
-  fits_case : (end read_only : ℕ) (none : Bool) → end ≤ 0x40000000 → read_only ≤ end →
-      (if none then read_only else end) - 0x10000000 ≤ 0x30000000
-  fits_case end read_only true low under = omega (arith, low, under)
-  fits_case end read_only false low under = omega (arith, low)
-
   too_big : 0x30000000 < data_end files span - 0x10000000 → data_refusal files span ≡ Some DataTooBig
   too_big over = grind (arith, nat_tests, over)
-
-  fits_data : data_end files span - 0x10000000 ≤ 0x30000000 → data_refusal files span ≡ None
-  fits_data low = grind (arith, nat_tests, low)
 
   -- data is too big where a part of it passes its end
   pub refused : (end : ℕ) (r : Refusal) → end ≤ commons_end files span → past_limit end ≡ Some r → data_refusal files span ≡ Some r
@@ -116,13 +108,6 @@ module _ (files : List (List ℕ)) (span : ℕ) where
       let start = writable_start files in
       too_big (end_case (commons_end files span) (read_only_end files) start (commons_end files span == start) refl
       (omega (arith, this.0, within)) refl) ∙ ap Some this.1
-
-  -- and fits where all of it does
-  pub accepted : set_refusal files ≡ None → commons_end files span ≤ DATA_END → data_refusal files span ≡ None
-  accepted whole low =
-      let order = in_order whole in
-      fits_data (fits_case (commons_end files span) (read_only_end files) (commons_end files span == writable_start files) low
-      (omega (arith, order.read_only, order.groups, order.writable, order.zeroed, order.commons)))
 
   -- the writable segment starts here
   pub start_is : (end start : ℕ) → end ≡ read_only_end files → IsAlignedUp end PAGE start → start ≡ writable_start files
@@ -195,25 +180,9 @@ module _ (files : List (List ℕ)) (span : ℕ) where
         firsts = addresses.firsts;
         commons = count_is ∙ ap (λ (l : List ℕ). length l) addresses.pieces ∙ address_count files span (length files);
         starts = are.starts;
+        fits = are.fits;
         read_only = are.read_only;
         writable_start_is = are.writable_start_is;
         writable = are.first.zeroed;
         commons_end_is = end_is ∙ ap (run_end runs.zeroed) rooms_is ∙ ap (λ (s : ℕ). run_end s (commons_of files)) are.zeroed;
       }
-
-  -- commons that pass the end of data
-  pub commons_past : (runs : Runs) (rooms : List Extent) (r : Refusal) → AreRuns files span runs → rooms ≡ commons_of files →
-      (r ≡ Memory) ⊎ (past_limit (run_end runs.zeroed rooms) ≡ Some r) → (r ≡ Memory) ⊎ (data_refusal files span ≡ Some r)
-  commons_past runs rooms r are rooms_is (inl memory) = inl memory
-  commons_past runs rooms r are rooms_is (inr past) =
-      let here : run_end runs.zeroed rooms ≡ commons_end files span =
-      ap (run_end runs.zeroed) rooms_is ∙ ap (λ (s : ℕ). run_end s (commons_of files)) are.zeroed in
-      inr (refused (commons_end files span) r (omega arith) (sym (ap past_limit here) ∙ past))
-
-  -- and ones that don't
-  pub commons_fit_data : (runs : Runs) (rooms : List Extent) → set_refusal files ≡ None → AreRuns files span runs → rooms ≡ commons_of files →
-      past_limit (run_end runs.zeroed rooms) ≡ None → data_refusal files span ≡ None
-  commons_fit_data runs rooms whole are rooms_is within =
-      let here : run_end runs.zeroed rooms ≡ commons_end files span =
-      ap (run_end runs.zeroed) rooms_is ∙ ap (λ (s : ℕ). run_end s (commons_of files)) are.zeroed in
-      accepted whole (omega (arith, here, within_limit (run_end runs.zeroed rooms) within))

@@ -44,7 +44,7 @@ piece_index plan (Common c) = plan.commons + c
 
 -- a piece is one of those that are laid out
 abbrev pub IsLaidPiece : LaidData → Piece → Type 0
-IsLaidPiece plan (Section file i) = (file < length plan.firsts) × (slice_index plan.firsts file + i < plan.commons)
+IsLaidPiece plan (Section file i) = (file < length plan.firsts) × (slice_index plan.firsts file + i < length plan.pieces)
 IsLaidPiece plan (Common c) = plan.commons + c < length plan.pieces
 
 -- so are the piece and the file of a target

@@ -93,18 +93,26 @@ impl DataPlan {
         self.bases[file as usize]
     }
 
+    /// Which of the addresses is a piece's.
+    fn piece_index(&self, piece: Piece) -> u64
+        requires { IsLaidPiece self.now piece }
+        ensures index { result ≡ piece_index self.now piece }
+        ensures within { result < length self.now.pieces }
+    {
+        match piece {
+            Piece::Section(file, section) => {
+                self.pieces.addresses.firsts[file as usize] + u64::from(section)
+            }
+            Piece::Common(c) => self.pieces.commons + c,
+        }
+    }
+
     /// The address of a piece.
     fn piece_address(&self, piece: Piece) -> u64
         requires { IsLaidPiece self.now piece }
         ensures { result ≡ slice_index self.now.pieces (piece_index self.now piece) }
     {
-        let index = match piece {
-            Piece::Section(file, section) => {
-                self.pieces.addresses.firsts[file as usize] + u64::from(section)
-            }
-            Piece::Common(c) => self.pieces.commons + c,
-        };
-        self.pieces.addresses.pieces[index as usize]
+        self.pieces.addresses.pieces[self.piece_index(piece) as usize]
     }
 
     /// Where a target lies in data, or the number that it is, modulo 2^64. None for a place in text.
@@ -172,7 +180,10 @@ pub fn lay_data(alloc: Global, res: &Resolved, toc_span: u32) -> Result<DataPlan
     ensures refusal { Answers result (data_refusal res.now.files toc_span) }
     ensures plan { IfOk result (IsPlan res.now.files toc_span) }
 {
-    let groups = toc_groups(alloc, res.set(), u64::from(toc_span))?;
+    let set = res.set();
+    // none of the files is refused
+    let _files = set.file_count();
+    let groups = toc_groups(alloc, set, u64::from(toc_span))?;
     let pieces = lay_pieces(alloc, res, &groups)?;
     let bases = bases_of(alloc, groups.numbers.as_slice(), pieces.starts.as_slice())?;
     let text_start = align_up(data_end(pieces.ends), PAGE);

@@ -109,6 +109,7 @@ module _ (files : List (List ℕ)) (span : ℕ) where
     pub firsts : laid.addresses.firsts.items ≡ map (λ file. index_of section_walk files file 0) (range_with_len 0 (length files))
     pub commons : laid.commons ≡ length (all_items section_walk files)
     pub starts : AreGroupStarts laid.starts.items
+    pub fits : FitsData files span
     pub read_only : laid.ends.read_only ≡ read_only_end files
     pub writable_start_is : laid.ends.writable_start ≡ writable_start files
     pub writable : laid.ends.writable ≡ writable_end files span

@@ -7,7 +7,7 @@ use Rattle.toc_groups.specs.Runs.{IsFitExtent}
 use Rattle.toc_groups.specs.Sections.{commons_of}
 use Rattle.toc_groups.specs.inside.Laid.{AreRuns, AreAddresses}
 use Rattle.toc_groups.proofs.Commons.{commons_fit}
-use Rattle.toc_groups.proofs.Running.{laid_are, commons_past, commons_fit_data}
+use Rattle.toc_groups.proofs.Running.{laid_are}
 use Rattle.toc_groups.proofs.pieces.lay_pieces.Goals as goal
 
 pub push_places-requires-clause-fit : goal.push_places-requires-clause-fit
