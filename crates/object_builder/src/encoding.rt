@@ -34,7 +34,7 @@ impl Header {
     };
 
     /// The header with what is stated otherwise.
-    pub fn with(self, stated: &Stated) -> Header {
+    pub(crate) fn with(self, stated: &Stated) -> Header {
         Header {
             name: stated.name.unwrap_or(self.name),
             kind: stated.kind.unwrap_or(self.kind),
@@ -49,7 +49,7 @@ impl Header {
     }
 
     /// Its 64 bytes (ELF64, "Section Header"). Nothing has an address yet.
-    pub fn bytes(&self) -> [u8; 64] {
+    pub(crate) fn bytes(&self) -> [u8; 64] {
         let mut bytes = [0; 64];
         put_word(&mut bytes, 0, self.name);
         put_word(&mut bytes, 4, self.kind);
@@ -65,7 +65,7 @@ impl Header {
 }
 
 /// The 24 bytes of a symbol whose name stands at a place among the symbols' names (ELF64, "Symbol Table").
-pub fn symbol_bytes(symbol: &Symbol, name: u32) -> [u8; 24] {
+pub(crate) fn symbol_bytes(symbol: &Symbol, name: u32) -> [u8; 24] {
     let mut bytes = [0; 24];
     put_word(&mut bytes, 0, symbol.stated_name.unwrap_or(name));
     bytes[4] = symbol.info;
@@ -77,7 +77,7 @@ pub fn symbol_bytes(symbol: &Symbol, name: u32) -> [u8; 24] {
 }
 
 /// The 24 bytes of a record (ELF64, "Relocation").
-pub fn record_bytes(record: &Record) -> [u8; 24] {
+pub(crate) fn record_bytes(record: &Record) -> [u8; 24] {
     let mut bytes = [0; 24];
     put_long(&mut bytes, 0, record.offset);
     put_word(&mut bytes, 8, record.kind);
@@ -88,7 +88,7 @@ pub fn record_bytes(record: &Record) -> [u8; 24] {
 
 /// The 64 bytes of a file header: where the section headers begin, how many there are, and which section holds their names, unless
 /// other values are stated (ELF64, "ELF Header").
-pub fn file_header_bytes(header: &FileHeader, start: u64, count: u16, names: u16) -> [u8; 64] {
+pub(crate) fn file_header_bytes(header: &FileHeader, start: u64, count: u16, names: u16) -> [u8; 64] {
     let mut bytes = [0; 64];
     bytes[0] = header.magic[0];
     bytes[1] = header.magic[1];
@@ -118,7 +118,7 @@ pub fn append(to: &mut Vec<u8>, bytes: &[u8]) -> Result<(), Memory>
 }
 
 /// Puts a name and its zero byte behind others, and says where it begins.
-pub fn append_name(names: &mut Vec<u8>, name: &[u8]) -> Result<u32, Memory> {
+pub(crate) fn append_name(names: &mut Vec<u8>, name: &[u8]) -> Result<u32, Memory> {
     let at = word_of(names.len())?;
     append(names, name)?;
     append(names, &[0])?;

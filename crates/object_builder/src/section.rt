@@ -1,4 +1,6 @@
 // Sections, symbols and records, by their fields.
+ghost use Rattle.std.specs.Prelude.{◌≡◌, nat_lt};
+
 use ppc_bytes::constants::{
     SHF_ALLOC, SHF_EXECINSTR, SHF_WRITE, SHT_NOBITS, SHT_PROGBITS, STB_GLOBAL, STT_FUNC,
 };
@@ -103,25 +105,14 @@ impl Section<'_> {
     /// `.toc` without slots.
     pub const TOC: Section<'static> = Section {
         name: b".toc",
-        kind: SHT_PROGBITS,
-        flags: SHF_ALLOC | SHF_WRITE,
-        align: 8,
-        bytes: &[],
-        records: &[],
-        stated: Stated::TRUE,
-        records_stated: Stated::TRUE,
+        ..Section::DATA
     };
 
     /// `.bss`, of which the size is yet to be stated.
     pub const ZEROED: Section<'static> = Section {
         name: b".bss",
         kind: SHT_NOBITS,
-        flags: SHF_ALLOC | SHF_WRITE,
-        align: 8,
-        bytes: &[],
-        records: &[],
-        stated: Stated::TRUE,
-        records_stated: Stated::TRUE,
+        ..Section::DATA
     };
 }
 
@@ -167,8 +158,10 @@ impl Symbol<'_> {
         stated_name: None,
     };
 
-    /// Whether it stands before all symbols that other files see.
-    pub fn is_local(&self) -> bool {
+    /// Whether its binding is LOCAL: it stands before all symbols that other files see.
+    pub fn is_local(&self) -> bool
+        ensures { result ≡ nat_lt self.now.info 16 }
+    {
         self.info < STB_GLOBAL << 4
     }
 }
