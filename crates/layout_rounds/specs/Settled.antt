@@ -1,5 +1,6 @@
--- The layout of the far set of a shape, and why a shape is refused.
-use Rattle.std.specs.Prelude.{◌≡◌, ℕ, ◌+◌, ◌<◌, ◌≤◌, List, length, Bool, true, ◌&&◌, not, nat_lt, if◌then◌else◌, Option, Some, None, slice_index}
+-- The layout of the far set of a shape, and why a shape is refused (stubs and the reach of calls: ELFv2 ABI, "Function Call").
+use Rattle.std.specs.Prelude.{◌≡◌, ℕ, ◌+◌, ◌<◌, ◌≤◌, List, length, Bool, true, ◌&&◌, not, nat_lt, if◌then◌else◌}
+use Rattle.std.specs.Prelude.{Option, Some, None, slice_index}
 use Rattle.std.specs.List.{find, range_with_len}
 use Rattle.layout_rounds.specs.declared.shape.Shape.{Shape}
 use Rattle.layout_rounds.specs.declared.shape.ShapeSite.{ShapeSite}
@@ -10,7 +11,7 @@ use Rattle.layout_rounds.specs.Shapes.{KeyedText, keyed_text, site_of}
 use Rattle.layout_rounds.specs.Layout.{PlacedText, key_count, key_at, point_in, stub_size, address, stub_address, text_end, IsLayout}
 use Rattle.layout_rounds.specs.Reach.{reaches, IsFarSet}
 
--- how many bytes a text may have
+-- how many bytes a text may have, by this linker's limit
 abbrev pub text_limit : ℕ
 text_limit = 0x20000000
 

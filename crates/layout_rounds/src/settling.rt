@@ -16,7 +16,7 @@ use std::alloc::Global;
 use std::sync::ledger::Ledger;
 use stub_kinds::size;
 
-/// How many bytes a text may have.
+/// How many bytes a text may have, by this linker's limit.
 pub const TEXT_LIMIT: u64 = 0x2000_0000;
 
 /// A text with its far set, and the layout of that set.
@@ -62,7 +62,8 @@ impl From<Memory> for LayoutFault {
 /// Whether a call branches to a stub, and doesn't reach it.
 fn is_out(shape: &Shape, span: u32, settled: &Settled, i: u32) -> bool
     requires sound { IsSound shape.now }
-    requires layout { IsFarLayout shape.now span settled.now.keyed settled.now.far settled.now.places }
+    requires layout { IsFarLayout
+        shape.now span settled.now.keyed settled.now.far settled.now.places }
     requires call { i < length shape.now.sites.items }
     ensures { result ≡
         is_out settled.now.keyed shape.now.sites.items (member settled.now.far) span i }
@@ -79,7 +80,8 @@ fn is_out(shape: &Shape, span: u32, settled: &Settled, i: u32) -> bool
 /// The first call that doesn't reach its stub.
 fn stub_reach(shape: &Shape, span: u32, settled: &Settled) -> Option<u32>
     requires sound { IsSound shape.now }
-    requires layout { IsFarLayout shape.now span settled.now.keyed settled.now.far settled.now.places }
+    requires layout { IsFarLayout
+        shape.now span settled.now.keyed settled.now.far settled.now.places }
     ensures { result ≡ stub_reach shape.now span (member settled.now.far) }
 {
     for i in 0..shape.sites.len() {
