@@ -132,9 +132,10 @@ tocs_in files file (suc n) whole within few =
     let b = file_at files file in
     let before = tocs_in files file n whole within (omega (arith, few)) in
     let this = toc_one files file n (same_sort (sort_of b n) Toc) whole within (omega (arith, few)) refl in
-    let long = length-append (items_in (sort_walk Toc) file b n) (extent_at Toc file b n) in
-    (all_append IsSmallToc (items_in (sort_walk Toc) file b n) (extent_at Toc file b n) before.0 this.0,
-    omega (arith, before.1, this.1, long))
+    let long = length-append (items_in (sort_walk Toc) file b n) (extent_at Toc file b n) in (
+      all_append IsSmallToc (items_in (sort_walk Toc) file b n) (extent_at Toc file b n) before.0 this.0,
+      omega (arith, before.1, this.1, long),
+    )
 
 -- and of files
 pub tocs_of_files : (files : List (List ℕ)) (first n : ℕ) → set_refusal files ≡ None → first + n ≤ length files →
@@ -147,9 +148,10 @@ tocs_of_files files first (suc n) whole within =
     let before = tocs_of_files files first n whole (omega (arith, within)) in
     let this = tocs_in files file (e_shnum b) whole inside (omega arith) in
     let few = sections_few b (whole_file files file whole inside) in
-    let long = length-append (tocs_of files first n) (items_in (sort_walk Toc) file b (e_shnum b)) in
-    (all_append IsSmallToc (tocs_of files first n) (items_in (sort_walk Toc) file b (e_shnum b)) before.0 this.0,
-    omega (arith, before.1, this.1, long, few))
+    let long = length-append (tocs_of files first n) (items_in (sort_walk Toc) file b (e_shnum b)) in (
+      all_append IsSmallToc (tocs_of files first n) (items_in (sort_walk Toc) file b (e_shnum b)) before.0 this.0,
+      omega (arith, before.1, this.1, long, few),
+    )
 
 behind_case : (end : ℕ) (piece : Extent) (none : Bool) → placed end piece ≤ end + (piece.align - 1) →
     (if none then end else placed end piece + piece.size) ≤ end + (piece.align - 1) + piece.size
@@ -239,5 +241,10 @@ slots_few files first (suc n) whole within =
     let is_whole = whole_file files file whole (omega (arith, within)) in
     let named = named_in_most file b (e_shnum b) is_whole (omega arith) in
     let few = sections_few b is_whole in
-    omega (arith, slots_few files first n whole (omega (arith, within)),
-    with_slots_most files (slots_of files first n) (named_symbols files file), named, few)
+    omega (
+      arith,
+      slots_few files first n whole (omega (arith, within)),
+      with_slots_most files (slots_of files first n) (named_symbols files file),
+      named,
+      few,
+    )

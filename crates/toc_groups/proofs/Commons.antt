@@ -44,11 +44,13 @@ symbol_case : (files : List (List ℕ)) (file j : ℕ) (own : Bool) → set_refu
 symbol_case files file j true whole within inside is = tt
 symbol_case files file j false whole within inside is =
     let b = file_at files file in
-    let above : 1 ≤ j = grind (arith, nat_tests, is) in
-    (λ role.
-    let fit = symbol_fit file b j (file_fit files file whole within) above inside in
-    let common = common_role b j role in
-    record { power = fit.common_align common; most = fit.common_align_most common }, tt)
+    let above : 1 ≤ j = grind (arith, nat_tests, is) in (
+      λ role.
+          let fit = symbol_fit file b j (file_fit files file whole within) above inside in
+          let common = common_role b j role in
+          record { power = fit.common_align common; most = fit.common_align_most common },
+      tt,
+    )
 
 symbols_in : (files : List (List ℕ)) (file n : ℕ) → set_refusal files ≡ None → file < length files →
     n ≤ symbol_count (file_at files file) → AllByRecursion IsFitCommon (items_in external_walk file (file_at files file) n)

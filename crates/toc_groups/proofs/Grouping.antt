@@ -180,7 +180,8 @@ module _ (files : List (List ℕ)) (span : ℕ) where
                 (slots_extend files last.first last.count 1);
             size = whole_size ∙ size_is ∙ was.size ∙ ap (λ (x : ℕ). group_size files x was.count) first_is
                 ∙ ap (group_size files last.first) old_count;
-          });
+          },
+        );
       }
 
   -- ---- all files

@@ -173,7 +173,7 @@ looked_up files slots names l a own o b name are view is other file named found 
 flip : (a b : List ℕ) → bytes_eq a b ≡ false → bytes_eq b a ≡ false
 flip a b apart = elim (known (bytes_eq b a)) [
   | inl same ↦ (let is : b ≡ a = (bytes_eq-Decides b a).0 same in
-    let here : bytes_eq a b ≡ true = ap (bytes_eq a) is ∙ bytes_same a in cc)
+      let here : bytes_eq a b ≡ true = ap (bytes_eq a) is ∙ bytes_same a in cc)
   | inr other ↦ other
 ]
 

@@ -77,9 +77,10 @@ module _ (files : List (List ℕ)) (span : ℕ) where
       ((group_with files span (file + d)).first ≡ (group_with files span file).first)
       × ((group_with files span (file + d)).count ≡ (group_with files span file).count + d)
   same_group file zero same =
-      let e : file + 0 ≡ file = omega arith in
-      (ap (λ (n : ℕ). (group_with files span n).first) e,
-      (let c = ap (λ (n : ℕ). (group_with files span n).count) e in omega (arith, c)))
+      let e : file + 0 ≡ file = omega arith in (
+        ap (λ (n : ℕ). (group_with files span n).first) e,
+        (let c = ap (λ (n : ℕ). (group_with files span n).count) e in omega (arith, c)),
+      )
   same_group file (suc d) same =
       let e : suc (file + d) ≡ file + suc d = omega arith in
       let here : group_number files span (suc (file + d)) ≡ group_number files span file =
@@ -88,9 +89,10 @@ module _ (files : List (List ℕ)) (span : ℕ) where
       let rises = number_rises file d in
       let before : group_number files span (file + d) ≡ group_number files span file = omega (arith, here, step.0, rises) in
       let last = same_group file d before in
-      let stays = stays_in (suc (file + d)) (here ∙ sym before) in
-      (sym (ap (λ (n : ℕ). (group_with files span n).first) e) ∙ stays.0 ∙ last.0,
-      (let c = ap (λ (n : ℕ). (group_with files span n).count) e in omega (arith, c, stays.1, last.1)))
+      let stays = stays_in (suc (file + d)) (here ∙ sym before) in (
+        sym (ap (λ (n : ℕ). (group_with files span n).first) e) ∙ stays.0 ∙ last.0,
+        (let c = ap (λ (n : ℕ). (group_with files span n).count) e in omega (arith, c, stays.1, last.1)),
+      )
 
   pub record IsWhole (file : ℕ) (whole : Group) : Type 0 where
     pub first : whole.first ≡ (group_with files span file).first
@@ -465,11 +467,12 @@ module _ (files : List (List ℕ)) (span : ℕ) where
   start_read starts file number are within is =
       let count = group_count files span in
       let long = ap (λ (l : List ℕ). length l) are ∙ length-map-range_with_len (group_start files span) 0 count in
-      let inside : number < count = omega (arith, is, number_below file within) in
-      (omega (arith, long, inside),
-      ap (λ (l : List ℕ). get_or l number 0) are
-      ∙ get_or-map-range_with_len (group_start files span) 0 count number number 0 inside (omega arith)
-      ∙ ap (group_start files span) is)
+      let inside : number < count = omega (arith, is, number_below file within) in (
+        omega (arith, long, inside),
+        ap (λ (l : List ℕ). get_or l number 0) are
+            ∙ get_or-map-range_with_len (group_start files span) 0 count number number 0 inside (omega arith)
+            ∙ ap (group_start files span) is,
+      )
 
   pub group_there : (laid : TocGroups) (file number : ℕ) → AreGroups files span laid → file < length files →
       number ≡ group_number files span file → number < length laid.groups.items

@@ -63,11 +63,12 @@ module _ (files : List (List ℕ)) (span : ℕ) where
   starts_are laid start starts are is laid_out =
       let rooms = rooms_are laid are in
       let count : length (map room_of laid.groups.items) ≡ group_count files span =
-      length-map laid.groups.items room_of ∙ are.count in
-      (laid_out.starts ∙ ap (λ (s : ℕ). map (run_place s (map room_of laid.groups.items)) (range_with_len 0 (length (map room_of laid.groups.items)))) is
-      ∙ ap (λ (l : List Extent). map (run_place (writable_start files) l) (range_with_len 0 (length (map room_of laid.groups.items)))) rooms
-      ∙ ap (λ (n : ℕ). map (group_start files span) (range_with_len 0 n)) count,
-      laid_out.end ∙ ap (λ (s : ℕ). run_end s (map room_of laid.groups.items)) is ∙ ap (run_end (writable_start files)) rooms)
+      length-map laid.groups.items room_of ∙ are.count in (
+        laid_out.starts ∙ ap (λ (s : ℕ). map (run_place s (map room_of laid.groups.items)) (range_with_len 0 (length (map room_of laid.groups.items)))) is
+            ∙ ap (λ (l : List Extent). map (run_place (writable_start files) l) (range_with_len 0 (length (map room_of laid.groups.items)))) rooms
+            ∙ ap (λ (n : ℕ). map (group_start files span) (range_with_len 0 n)) count,
+        laid_out.end ∙ ap (λ (s : ℕ). run_end s (map room_of laid.groups.items)) is ∙ ap (run_end (writable_start files)) rooms,
+      )
 
   -- ---- runs in order
 

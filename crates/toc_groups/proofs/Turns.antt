@@ -17,12 +17,13 @@ divides_turn : (a : ℕ) → IsPowerOfTwo a → a ≤ 256 → (m : ℕ) × (256 
 divides_turn a power most =
     elim (cases_lt 8 power.0) [
       | inl over ↦ absurd (let more = pow_below 8 power.0 over in
-        let whole : 2 ^ 8 ≡ 256 = refl in omega (arith, more, whole, power.1, most))
+          let whole : 2 ^ 8 ≡ 256 = refl in omega (arith, more, whole, power.1, most))
       | inr within ↦ (
           let parts : 8 - power.0 + power.0 ≡ 8 = omega (arith, within) in
-          let whole : 2 ^ (8 - power.0 + power.0) ≡ 256 = ap (λ (x : ℕ). 2 ^ x) parts in
-          (2 ^ (8 - power.0),
-          sym whole ∙ pow-add 2 (8 - power.0) power.0 ∙ ap (λ (x : ℕ). 2 ^ (8 - power.0) * x) (sym power.1)))
+          let whole : 2 ^ (8 - power.0 + power.0) ≡ 256 = ap (λ (x : ℕ). 2 ^ x) parts in (
+            2 ^ (8 - power.0),
+            sym whole ∙ pow-add 2 (8 - power.0) power.0 ∙ ap (λ (x : ℕ). 2 ^ (8 - power.0) * x) (sym power.1),
+          ))
     ]
 
 aligned_later : (n q a m : ℕ) → 0 < a → 256 ≡ m * a → aligned (n + 256 * q) a ≡ aligned n a + 256 * q

@@ -122,7 +122,7 @@ impl<'a, 'b> OpenGroup<'a, 'b> {
         ensures row { IfOk result (λ row. (number n : ℕ) →
             self.old.first + n ≡ file →
             IsNumbered self.old.slots.files
-                (record { number = number; first = self.old.first; count = suc n }) file row) }
+            (record { number = number; first = self.old.first; count = suc n }) file row) }
     {
         let row = self.slots.add_file(alloc, file)?;
         add_tocs(&mut self.ends, self.slots.set(), file);

@@ -56,7 +56,7 @@ fn add_sections(end: &mut u64, set: &ObjectSet, sort: Sort, file: u32) -> Result
     requires low { end.old ≤ DATA_END }
     ensures refusal { let b = file_at set.now file in
         Refuses result
-            (past_limit (run_end end.old (items_in (sort_walk sort) file b (e_shnum b)))) }
+        (past_limit (run_end end.old (items_in (sort_walk sort) file b (e_shnum b)))) }
     ensures end { let b = file_at set.now file in
         OnOk result (end.new ≡ run_end end.old (items_in (sort_walk sort) file b (e_shnum b))) }
 {
@@ -87,7 +87,7 @@ fn push_places(addresses: &mut Vec<u64>, pieces: &[Extent], start: u64) -> Resul
     ensures refusal { Answers result (past_limit (run_end start pieces.now)) }
     ensures addresses { let count = length pieces.now in
         OnOk result (addresses.new.items
-            ≡ addresses.old.items ++ map (run_place start pieces.now) (range_with_len 0 count)) }
+        ≡ addresses.old.items ++ map (run_place start pieces.now) (range_with_len 0 count)) }
     ensures end { IfOk result (λ end. end ≡ run_end start pieces.now) }
 {
     let mut end = start;
@@ -197,7 +197,7 @@ fn push_sections(
     requires ends { AreEndsBefore set.now laid.now.span file ends.old }
     ensures pieces { let b = file_at set.now file in
         OnOk result (pieces.new.items ≡ pieces.old.items
-            ++ items_in (address_walk set.now laid.now.span) file b (e_shnum b)) }
+        ++ items_in (address_walk set.now laid.now.span) file b (e_shnum b)) }
     ensures ends { OnOk result (AreEndsBefore set.now laid.now.span (file + 1) ends.new) }
 {
     let number = laid.numbers[file as usize] as usize;
@@ -314,8 +314,7 @@ pub fn lay_pieces(alloc: Global, res: &Resolved, laid: &TocGroups) -> Result<Lai
     // none of the files is refused
     let _files = set.file_count();
     let runs = lay_runs(alloc, set, laid)?;
-    let mut addresses =
-        section_addresses(alloc, set, laid, runs.starts.as_slice(), runs.first)?;
+    let mut addresses = section_addresses(alloc, set, laid, runs.starts.as_slice(), runs.first)?;
     let section_count = addresses.pieces.len() as u64;
     let rooms = common_rooms(alloc, res)?;
     let commons = push_places(&mut addresses.pieces, rooms.as_slice(), runs.zeroed)?;

@@ -58,23 +58,35 @@ const GOT_PCREL34: u32 = 133;
 /// `pld r3` with R = 1, as its bytes stand in a file.
 const LOAD: [u8; 8] = [0x00, 0x00, 0x10, 0x04, 0x00, 0x00, 0x60, 0xE4];
 
+/// How many zeros there are.
+const MOST: usize = 0x10008;
+
+/// So many of the zeros.
+fn zeros_of<'a>(zeros: &'a [u8], size: usize) -> &'a [u8] {
+    if size <= zeros.len() {
+        &zeros[..size]
+    } else {
+        zeros
+    }
+}
+
 fn section<'a>(room: Room, zeros: &'a [u8]) -> Section<'a> {
     match room {
         Room::ReadOnly(size, align) => Section {
             name: b".rodata",
             flags: SHF_ALLOC,
             align,
-            bytes: &zeros[..size],
+            bytes: zeros_of(zeros, size),
             ..Section::DATA
         },
         Room::Toc(size, align) => Section {
             align,
-            bytes: &zeros[..size],
+            bytes: zeros_of(zeros, size),
             ..Section::TOC
         },
         Room::Writable(size, align) => Section {
             align,
-            bytes: &zeros[..size],
+            bytes: zeros_of(zeros, size),
             ..Section::DATA
         },
         Room::Zeroed(size, align) => Section {
@@ -110,17 +122,17 @@ fn symbol(named: Named) -> Symbol<'static> {
 /// The bytes of a file, which has a WEAK `_start` as its last symbol.
 fn file_bytes(alloc: Global, file: &File, zeros: &[u8]) -> Result<Vec<u8>, Fail> {
     let mut code = Vec::new(alloc);
-    code.extend_from_slice(&LOAD)?;
     let mut records = Vec::new(alloc);
-    for (i, load) in file.loads.iter().enumerate() {
-        code.extend_from_slice(&LOAD)?;
+    for load in file.loads {
         records.push(Record {
-            offset: 8 * i as u64,
+            offset: code.len() as u64,
             kind: GOT_PCREL34,
             symbol: *load,
             addend: 0,
         })?;
+        code.extend_from_slice(&LOAD)?;
     }
+    code.extend_from_slice(&LOAD)?;
     let mut sections = Vec::new(alloc);
     sections.push(Section {
         bytes: &code,
@@ -153,7 +165,10 @@ fn file_bytes(alloc: Global, file: &File, zeros: &[u8]) -> Result<Vec<u8>, Fail>
 
 /// The plan of files with a TOC span, or why there is none.
 pub fn laid(alloc: Global, files: &[File], span: u32) -> Result<Result<DataPlan, Refusal>, Fail> {
-    let zeros = vec![in alloc; 0u8; 0x10008]?;
+    if span % 8 != 0 || span < 16 || span > 0x1_0000 || files.len() > 100 {
+        return Err(Fail::new("no TOC span"));
+    }
+    let zeros = vec![in alloc; 0u8; MOST]?;
     let mut list = Vec::new(alloc);
     for file in files {
         list.push(FileBytes {

@@ -16,8 +16,16 @@ overflow_cast-len c =
     subst (λ (f : List (List ℕ)). IsJoined f c.args.span file c.in_ok-open_group.field-0) before.files c.in_ok-open_group.ensures in
     let count = full_count files c.args.span file c.loop-file.groups.items c.in_ok-open_group.field-0.full before.joined.count is.full in
     let long = ap (λ (l : List TocGroup). length l) c.in_ok-push_full.ensures in
-    omega (arith, c.len.ensures, c.push_full.new.groups.ok.0, long, count, number_most files c.args.span (suc file),
-    c.loop-file-test.true, c.file_count-file-end.ensures.few)
+    omega (
+      arith,
+      c.len.ensures,
+      c.push_full.new.groups.ok.0,
+      long,
+      count,
+      number_most files c.args.span (suc file),
+      c.loop-file-test.true,
+      c.file_count-file-end.ensures.few,
+    )
 
 pub loop-file-preserved : goal.loop-file-preserved
 loop-file-preserved c =
