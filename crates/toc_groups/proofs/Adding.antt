@@ -3,19 +3,17 @@ use Rattle.std.proofs.Common.{ℕ, suc, ◌≡◌, ◌<◌, ◌≤◌, ◌+◌, 
 use Rattle.std.proofs.Common.{if◌then◌else◌, append_assoc, add-one}
 use Rattle.std.specs.Prelude.{Option, None}
 use Rattle.elf64_records.specs.FileHeader.{e_shnum}
-use Rattle.object_set.specs.declared.places.SymbolId.{SymbolId}
 use Rattle.object_set.specs.declared.sort.Sort.TheVariants.{Toc}
 use Rattle.object_set.specs.Files.{file_at}
 use Rattle.object_set.specs.Refusals.{set_refusal}
 use Rattle.object_set.specs.Sections.{sort_of}
 use Rattle.object_set.specs.Walks.{items_in}
 use Rattle.toc_groups.specs.declared.extents.Extent.{Extent}
-use Rattle.toc_groups.specs.declared.groups.OpenGroup.{OpenGroup}
 use Rattle.toc_groups.specs.Runs.{run_end, IsFitExtent}
 use Rattle.toc_groups.specs.Sections.{same_sort, section_extent, extent_at, sort_walk}
 use Rattle.toc_groups.specs.Slots.{named_symbols, with_slots, slots_of}
-use Rattle.toc_groups.specs.Groups.{tocs_of, group_size}
-use Rattle.toc_groups.specs.inside.Ends.{AreEnds, AreLow, AreFileEnds}
+use Rattle.toc_groups.specs.Groups.{tocs_of}
+use Rattle.toc_groups.specs.inside.Ends.{AreEnds, AreLow}
 use Rattle.toc_groups.specs.inside.Numbered.{SlotList, slot_list, IsRow, Notes, Adds}
 use Rattle.toc_groups.specs.inside.Open.{IsOpen, IsNumbered}
 use Rattle.toc_groups.proofs.Bounds.{IsSmallToc, tocs_low, slots_few}

@@ -1,7 +1,7 @@
 -- How large sections are that lie in their files, and how many sections, slots and bytes files and groups have.
-use Rattle.std.proofs.Common.{ℕ, zero, suc, ◌≡◌, ◌≢◌, ◌<◌, ◌≤◌, ◌+◌, ◌-◌, ◌*◌, ◌/◌, ◌^◌, inl, inr, Bool, true, false, not, ◌&&◌, ◌==◌, List, [], ◌∷◌, ◌++◌}
-use Rattle.std.proofs.Common.{length, take, drop, length-append, length-drop, Option, Some, None, if◌then◌else◌, ap, sym, subst, ◌∙◌, refl, arith}
-use Rattle.std.specs.Prelude.{nat_lt, nat_le, slice_range}
+use Rattle.std.proofs.Common.{ℕ, zero, suc, ◌≡◌, ◌≢◌, ◌<◌, ◌≤◌, ◌+◌, ◌-◌, ◌*◌, ◌/◌, ◌^◌, Bool, true, false, not, ◌==◌, List, [], ◌∷◌, ◌++◌}
+use Rattle.std.proofs.Common.{length, length-append, Some, None, if◌then◌else◌, ap, sym, ◌∙◌, refl, arith}
+use Rattle.std.specs.Prelude.{slice_range}
 use Rattle.std.specs.Option.{option_map}
 use Rattle.std.proofs.lemmas.Bool.Decides.{nat_tests}
 use Rattle.std.specs.List.{AllByRecursion, list_any}
@@ -9,7 +9,7 @@ use Rattle.elf64_records.specs.First.{◌orelse◌, when}
 use Rattle.elf64_records.specs.laws.First.{both_none}
 use Rattle.elf64_records.specs.laws.Whole.{sections_whole, section_in_file}
 use Rattle.elf64_records.specs.FileHeader.{e_shnum, e_shoff}
-use Rattle.elf64_records.specs.Sections.{sh_size, sh_offset, is_rela, has_bytes, section_bytes}
+use Rattle.elf64_records.specs.Sections.{sh_size, sh_offset, has_bytes, section_bytes}
 use Rattle.elf64_records.specs.Records.{record_count, has_records, r_type, r_symbol}
 use Rattle.elf64_records.specs.Faults.{object_fault, header_fault, kind_fault, has_section_table, sections_fault, symbols_fault, first_section, rela_fault, range_fault, name_fault}
 use Rattle.elf64_records.specs.declared.fault.ElfFault.TheVariants.{BadTable}
@@ -18,15 +18,13 @@ use Rattle.object_set.specs.declared.sort.Sort.{Sort}
 use Rattle.object_set.specs.declared.sort.Sort.TheVariants.{Text, Zeroed, Toc, Writable, ReadOnly, Dropped}
 use Rattle.object_set.specs.declared.places.SymbolId.{SymbolId}
 use Rattle.object_set.specs.Files.{file_at}
-use Rattle.object_set.specs.Fit.{IsFitSection}
-use Rattle.object_set.specs.Sections.{sort_of, align_of, is_kept_sort}
+use Rattle.object_set.specs.Sections.{sort_of, is_kept_sort}
 use Rattle.object_set.specs.Refusals.{set_refusal, file_refusal, length_refusal, fault_refusal, sections_refusal, symbols_refusal, refusal_of}
-use Rattle.object_set.specs.laws.Fit.{file_fit, section_fit, length-section_bytes}
+use Rattle.object_set.specs.laws.Fit.{file_fit, section_fit}
 use Rattle.object_set.specs.Walks.{items_in}
-use Rattle.layout_rounds.specs.Shapes.{aligned}
 use Rattle.layout_rounds.proofs.Aligned.{aligned_most}
 use Rattle.toc_groups.specs.declared.extents.Extent.{Extent}
-use Rattle.toc_groups.specs.Runs.{placed, behind, run_end, IsFitExtent}
+use Rattle.toc_groups.specs.Runs.{placed, behind, run_end}
 use Rattle.toc_groups.specs.Sections.{same_sort, section_extent, extent_at, sort_walk}
 use Rattle.toc_groups.specs.Slots.{is_got_load, symbol_id, shares_slot, named_at, named_by, named_walk, named_symbols, with_slot, with_slots, slots_of}
 use Rattle.toc_groups.specs.Groups.{tocs_of}

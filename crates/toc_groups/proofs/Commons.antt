@@ -1,7 +1,7 @@
 -- Commons may be laid out: their alignment is that of one of their symbols.
-use Rattle.std.proofs.Common.{ℕ, zero, suc, ◌≡◌, ◌<◌, ◌≤◌, ◌+◌, ◌-◌, ◌⊎◌, inl, inr, Bool, true, false, ◌&&◌, ◌==◌, List, [], ◌∷◌, ◌++◌, length, take, map, max}
+use Rattle.std.proofs.Common.{ℕ, zero, suc, ◌≡◌, ◌<◌, ◌≤◌, ◌+◌, inl, inr, Bool, true, false, ◌&&◌, List, [], ◌∷◌, ◌++◌, length, take, map, max}
 use Rattle.std.proofs.Common.{Option, Some, None, slice_get, if◌then◌else◌, ap, sym, subst, ◌∙◌, refl, arith, add-one}
-use Rattle.std.specs.Prelude.{filter, filter_map}
+use Rattle.std.specs.Prelude.{filter_map}
 use Rattle.std.specs.Option.{option_map}
 use Rattle.std.specs.List.{AllByRecursion, cons_option}
 use Rattle.std.specs.Str.{bytes_eq}
@@ -9,7 +9,7 @@ use Rattle.std.proofs.lemmas.Bool.{cases_lt}
 use Rattle.std.proofs.lemmas.Bool.Decides.{nat_tests}
 use Rattle.std.proofs.Math.Seq.{take-length}
 use Rattle.ppc_bytes.specs.Bytes.{IsPowerOfTwo}
-use Rattle.elf64_records.specs.Symbols.{symbol_count, st_value}
+use Rattle.elf64_records.specs.Symbols.{symbol_count}
 use Rattle.object_set.specs.declared.places.SymbolId.{SymbolId}
 use Rattle.object_set.specs.Files.{file_at}
 use Rattle.object_set.specs.Refusals.{set_refusal}
@@ -19,7 +19,7 @@ use Rattle.object_set.specs.laws.Fit.{file_fit, symbol_fit}
 use Rattle.symbol_table.specs.declared.candidates.CommonSize.{CommonSize}
 use Rattle.symbol_table.specs.declared.candidates.Candidates.{Candidates}
 use Rattle.symbol_table.specs.Externals.{External, role_of, external_symbol, external_at, external_walk, external_symbols, names_of}
-use Rattle.symbol_table.specs.Candidates.{is_common_role, bearing, largest, common_of, candidates_of, first_resolution, resolution_of, common_in, all_candidates, commons_before, all_commons}
+use Rattle.symbol_table.specs.Candidates.{is_common_role, bearing, largest, common_of, candidates_of, first_resolution, resolution_of, common_in, all_candidates, all_commons}
 use Rattle.symbol_table.specs.Resolved.{size_pair}
 use Rattle.toc_groups.specs.declared.extents.Extent.{Extent}
 use Rattle.toc_groups.specs.Runs.{IsFitExtent}

@@ -1,10 +1,9 @@
 -- TOC groups as files join.
-use Rattle.std.proofs.Common.{ℕ, zero, suc, ◌≡◌, ◌≢◌, ◌<◌, ◌≤◌, ◌+◌, ◌-◌, ◌⊎◌, inl, inr, Bool, true, false, ◌||◌, ◌==◌, nat_le, List, [], ◌∷◌, ◌++◌}
-use Rattle.std.proofs.Common.{length, map, take, Option, Some, None, MatchOption, option_to_list, slice_get, if◌then◌else◌, ap, sym, subst, ◌∙◌, refl, arith}
+use Rattle.std.proofs.Common.{ℕ, zero, suc, ◌≡◌, ◌≢◌, ◌<◌, ◌≤◌, ◌+◌, ◌⊎◌, inl, inr, Bool, true, false, ◌||◌, ◌==◌, nat_le, List, [], ◌∷◌, ◌++◌}
+use Rattle.std.proofs.Common.{length, map, take, Option, Some, None, option_to_list, slice_get, if◌then◌else◌, ap, sym, subst, ◌∙◌, refl, arith}
 use Rattle.std.proofs.Common.{add-one, length-append}
 use Rattle.std.proofs.Math.Seq.{take-length}
 use Rattle.std.specs.List.{range_with_len}
-use Rattle.std.proofs.lemmas.Bool.{cases_lt}
 use Rattle.std.proofs.lemmas.Bool.Decides.{nat_tests}
 use Rattle.std.proofs.lemmas.List.FromFn.{map-range_with_len_more, length-map-range_with_len}
 use Rattle.std.proofs.lemmas.Option.{slice_get_within}
@@ -13,10 +12,9 @@ use Rattle.object_set.specs.laws.Walks.{get_split}
 use Rattle.toc_groups.specs.declared.groups.TocGroup.{TocGroup}
 use Rattle.toc_groups.specs.declared.groups.TocGroups.{TocGroups}
 use Rattle.toc_groups.specs.declared.groups.OpenGroup.{OpenGroup}
-use Rattle.toc_groups.specs.declared.groups.Joined.{Joined}
 use Rattle.toc_groups.specs.Slots.{slots_of}
-use Rattle.toc_groups.specs.Groups.{Group, group_size, joined, group_after, group_with, group_number, groups_after, group_among, group_count}
-use Rattle.toc_groups.specs.inside.Numbered.{SlotList, slot_list}
+use Rattle.toc_groups.specs.Groups.{Group, group_size, group_after, group_with, group_number, groups_after, group_among}
+use Rattle.toc_groups.specs.inside.Numbered.{SlotList}
 use Rattle.toc_groups.specs.inside.Open.{IsOpen, IsGroup, IsNumbered, IsFull, IsJoined, AreJoined, AreGroups}
 use Rattle.toc_groups.proofs.Slotting.{take_extended, slots_extend}
 

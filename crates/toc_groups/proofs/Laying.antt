@@ -1,8 +1,7 @@
 -- Runs grow with each piece, and what passes the end of data stays past it.
-use Rattle.std.proofs.Common.{ℕ, zero, suc, ◌≡◌, ◌≢◌, ◌<◌, ◌≤◌, ◌+◌, ◌-◌, ◌*◌, ◌/◌, ◌%◌, Bool, true, false, ◌==◌, List, [], ◌∷◌, ◌++◌, length, take, drop, map, get_or}
-use Rattle.std.proofs.Common.{Option, Some, None, if◌then◌else◌, inl, inr, ap, sym, subst, ◌∙◌, refl, arith, add-one, append_assoc}
-use Rattle.std.specs.Prelude.{nat_lt, nat_le, Result, Ok, Err}
-use Rattle.std.specs.List.{AllByRecursion, range_with_len, slice_index_or}
+use Rattle.std.proofs.Common.{ℕ, zero, suc, ◌≡◌, ◌<◌, ◌≤◌, ◌+◌, ◌-◌, ◌%◌, Bool, true, false, ◌==◌, List, [], ◌∷◌, ◌++◌, length, take, drop, map, get_or}
+use Rattle.std.proofs.Common.{Some, None, if◌then◌else◌, inl, inr, ap, sym, subst, ◌∙◌, refl, arith, append_assoc}
+use Rattle.std.specs.List.{AllByRecursion, range_with_len}
 use Rattle.std.proofs.lemmas.Bool.{cases_lt}
 use Rattle.std.proofs.lemmas.Bool.Decides.{nat_tests}
 use Rattle.std.proofs.lemmas.List.{append-nil, take_more, take-append-drop}
@@ -23,7 +22,7 @@ use Rattle.layout_rounds.proofs.Aligned.{power_pos}
 use Rattle.toc_groups.specs.declared.extents.Extent.{Extent}
 use Rattle.toc_groups.specs.declared.extents.TheConstants.{DATA_END}
 use Rattle.toc_groups.specs.Runs.{placed, behind, run_end, run_place, no_piece, IsFitExtent}
-use Rattle.toc_groups.specs.Sections.{same_sort, section_extent, extent_at, sort_walk, sections_of, sections_before}
+use Rattle.toc_groups.specs.Sections.{same_sort, section_extent, extent_at, sort_walk, sections_of}
 use Rattle.toc_groups.specs.inside.Limits.{past_limit}
 use Rattle.toc_groups.proofs.Every.{all_append}
 use Rattle.toc_groups.proofs.Runs.{run_end-append}

@@ -1,8 +1,8 @@
 -- Slots while they are numbered.
-use Rattle.std.proofs.Common.{ℕ, zero, suc, ◌≡◌, ◌<◌, ◌≤◌, ◌+◌, ◌⊎◌, inl, inr, Bool, true, false, cond, not, ◌&&◌, ◌||◌, ◌==◌, List, [], ◌∷◌, ◌++◌}
+use Rattle.std.proofs.Common.{ℕ, zero, suc, ◌≡◌, ◌<◌, ◌⊎◌, inl, inr, Bool, true, false, cond, not, ◌&&◌, ◌||◌, ◌==◌, List, [], ◌∷◌, ◌++◌}
 use Rattle.std.proofs.Common.{length, get_or, set, Option, Some, None, is_some, position, if◌then◌else◌, ap, sym, subst, ◌∙◌, refl, arith}
 use Rattle.std.specs.Prelude.{OnOk, IfOk, Result, Ok, Err, replicate}
-use Rattle.std.specs.List.{list_any, slice_index_or}
+use Rattle.std.specs.List.{list_any}
 use Rattle.std.specs.Str.{bytes_eq}
 use Rattle.std.specs.Borrow.{Bor}
 use Rattle.std.specs.BTreeMap.{BTreeMap, get_by, UpdatesBy}
@@ -21,7 +21,7 @@ use Rattle.object_set.specs.Files.{file_at}
 use Rattle.object_set.specs.Symbols.{name_of, is_local}
 use Rattle.toc_groups.specs.Slots.{symbol_id, shares_slot, with_slot, with_slots}
 use Rattle.toc_groups.specs.inside.Numbered.{SlotList, slot_list, bears, AreNamed, is_symbol, IsRow, Notes, Adds}
-use Rattle.toc_groups.proofs.Positions.{position_kept, position_last, position_other, any-from_none, any-from_some, any_last, same_position, same_any}
+use Rattle.toc_groups.proofs.Positions.{position_kept, position_last, position_other, any-from_some, any_last, same_position, same_any}
 
 -- ---- which symbols share a slot
 

@@ -15,27 +15,26 @@ use Rattle.object_set.specs.declared.sort.Sort.TheVariants.{Text, Zeroed, Toc, W
 use Rattle.object_set.specs.Files.{file_at}
 use Rattle.object_set.specs.Refusals.{set_refusal}
 use Rattle.object_set.specs.Sections.{sort_of, is_kept_sort}
-use Rattle.object_set.specs.Walks.{Walk, items_in, items_before, all_items, index_of, section_walk}
+use Rattle.object_set.specs.Walks.{items_in, items_before, index_of, section_walk}
 use Rattle.layout_rounds.proofs.Aligned.{aligned_most}
 use Rattle.toc_groups.specs.declared.extents.Extent.{Extent}
 use Rattle.toc_groups.specs.declared.extents.TheConstants.{DATA_END}
 use Rattle.toc_groups.specs.declared.groups.TocGroup.{TocGroup}
 use Rattle.toc_groups.specs.declared.groups.TocGroups.{TocGroups}
 use Rattle.toc_groups.specs.declared.pieces.Ends.{Ends}
-use Rattle.toc_groups.specs.Runs.{placed, behind, run_end, run_place, no_piece, IsFitExtent}
+use Rattle.toc_groups.specs.Runs.{placed, behind, run_end, no_piece, IsFitExtent}
 use Rattle.toc_groups.specs.Sections.{same_sort, section_extent, extent_at, sort_walk, sections_of, sections_before}
-use Rattle.toc_groups.specs.Slots.{slots_of}
 use Rattle.toc_groups.specs.Groups.{Group, tocs_of, slot_bytes, group_size, group_after, group_with, group_number, groups_after, group_among, group_count, group_at, group_extent, group_extents}
-use Rattle.toc_groups.specs.Data.{read_only_end, writable_start, groups_end, writable_end, zeroed_end, group_start, toc_before, address_by_sort, section_address, address_walk}
+use Rattle.toc_groups.specs.Data.{writable_start, groups_end, writable_end, group_start, toc_before, address_by_sort, section_address, address_walk}
 use Rattle.toc_groups.specs.inside.Limits.{FitsData}
 use Rattle.toc_groups.specs.inside.Laid.{room_of, HasRoomAt, HasRoom, address_after, ends_after, toc_start, AreEndsAt, AreEndsBefore}
 use Rattle.toc_groups.specs.inside.Open.{IsGroup, AreGroups}
 use Rattle.toc_groups.proofs.Bounds.{tocs_of_files, slots_few, IsSmallToc}
-use Rattle.toc_groups.proofs.Every.{all_append, all_weaker}
+use Rattle.toc_groups.proofs.Every.{all_weaker}
 use Rattle.toc_groups.proofs.Runs.{run_end-append}
 use Rattle.toc_groups.proofs.Adding.{fit_toc}
-use Rattle.toc_groups.proofs.Grouping.{either, group_end, group_some, number_step, joins}
-use Rattle.toc_groups.proofs.Laying.{Begins, behind_least, low_begins, number_begins, in_all, fit_before, fit_section, take_begins, next_end, begins_more}
+use Rattle.toc_groups.proofs.Grouping.{either, group_end, group_some, number_step}
+use Rattle.toc_groups.proofs.Laying.{Begins, behind_least, low_begins, number_begins, in_all, fit_before, fit_section, take_begins, next_end}
 
 -- ---- groups of files
 

@@ -1,7 +1,7 @@
 -- The plan of data, and its numbers.
-use Rattle.std.proofs.Common.{ℕ, zero, suc, ◌≡◌, ◌≢◌, ◌<◌, ◌≤◌, ◌+◌, ◌-◌, ◌*◌, ◌^◌, ◌⊎◌, inl, inr, Bool, true, false, ◌==◌, List, [], ◌∷◌, ◌++◌, length, map, get_or}
-use Rattle.std.proofs.Common.{Option, Some, None, is_some, position, slice_get, if◌then◌else◌, ap, sym, subst, ◌∙◌, refl, arith, cond, nat_lt}
-use Rattle.std.specs.List.{list_any, range_with_len, position_or_len}
+use Rattle.std.proofs.Common.{ℕ, zero, suc, ◌≡◌, ◌<◌, ◌≤◌, ◌+◌, ◌^◌, inl, inr, Bool, true, false, ◌==◌, List, [], ◌∷◌, length, map, get_or}
+use Rattle.std.proofs.Common.{Option, Some, None, is_some, position, slice_get, if◌then◌else◌, ap, sym, ◌∙◌, refl, arith, cond, nat_lt}
+use Rattle.std.specs.List.{range_with_len, position_or_len}
 use Rattle.std.proofs.lemmas.Bool.{cases_lt}
 use Rattle.std.proofs.lemmas.Bool.Decides.{nat_tests}
 use Rattle.std.proofs.lemmas.List.FromFn.{get_or-map-range_with_len, length-map-range_with_len}
@@ -15,7 +15,7 @@ use Rattle.layout_rounds.proofs.Aligned.{aligned_is}
 use Rattle.toc_groups.specs.declared.extents.TheConstants.{DATA_END}
 use Rattle.toc_groups.specs.declared.groups.TocGroups.{TocGroups}
 use Rattle.toc_groups.specs.declared.pieces.LaidPieces.{LaidPieces}
-use Rattle.toc_groups.specs.Slots.{symbol_id, shares_slot, slots_of, names_symbol, named_symbols}
+use Rattle.toc_groups.specs.Slots.{symbol_id, shares_slot, slots_of, names_symbol}
 use Rattle.toc_groups.specs.Groups.{Group, group_with, group_number, group_count, group_at}
 use Rattle.toc_groups.specs.Data.{writable_start, groups_end, commons_end, group_start, base_of, data_end, text_start, slot_number, slot_row}
 use Rattle.toc_groups.specs.Plans.{IsPlan}
@@ -23,7 +23,7 @@ use Rattle.toc_groups.specs.inside.Laid.{AreGroupStarts, AreLaid, data_end_in, b
 use Rattle.toc_groups.specs.inside.Open.{IsNumbered, AreGroups}
 use Rattle.toc_groups.specs.inside.Plans.{IsSafe}
 use Rattle.toc_groups.proofs.Bounds.{slots_few}
-use Rattle.toc_groups.proofs.Slotting.{slots_extend, position_extended, Extends}
+use Rattle.toc_groups.proofs.Slotting.{slots_extend, position_extended}
 use Rattle.toc_groups.proofs.Grouping.{group_end}
 use Rattle.toc_groups.proofs.Placing.{whole_of, number_below, start_low}
 

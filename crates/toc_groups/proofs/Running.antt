@@ -1,13 +1,13 @@
 -- The runs of data one behind the other, and when data is too big.
 use Rattle.std.proofs.Common.{ℕ, zero, suc, ◌≡◌, ◌<◌, ◌≤◌, ◌+◌, ◌-◌, ◌⊎◌, inl, inr, Bool, true, false, ◌==◌, List, [], ◌∷◌, ◌++◌, length, map}
-use Rattle.std.proofs.Common.{Vec, Global, Some, None, slice_get, if◌then◌else◌, ap, sym, subst, ◌∙◌, refl, arith}
+use Rattle.std.proofs.Common.{Vec, Global, Some, None, slice_get, if◌then◌else◌, ap, sym, ◌∙◌, refl, arith}
 use Rattle.std.proofs.lemmas.List.{length-map}
-use Rattle.std.specs.List.{AllByRecursion, range_with_len}
+use Rattle.std.specs.List.{range_with_len}
 use Rattle.std.proofs.lemmas.Bool.Decides.{nat_tests}
 use Rattle.elf64_exec.specs.declared.memory_map.TheConstants.{IMAGE_START, PAGE}
 use Rattle.object_set.specs.declared.refusal.Refusal.{Refusal}
 use Rattle.object_set.specs.declared.refusal.Refusal.TheVariants.{DataTooBig, Memory}
-use Rattle.object_set.specs.declared.sort.Sort.TheVariants.{Zeroed, Writable, ReadOnly}
+use Rattle.object_set.specs.declared.sort.Sort.TheVariants.{Zeroed, Writable}
 use Rattle.object_set.specs.Refusals.{set_refusal}
 use Rattle.object_set.specs.Walks.{all_items}
 use Rattle.ppc_bytes.specs.Bytes.{IsAlignedUp}
@@ -20,13 +20,13 @@ use Rattle.toc_groups.specs.declared.groups.TocGroups.{TocGroups}
 use Rattle.toc_groups.specs.declared.pieces.GroupStarts.{GroupStarts}
 use Rattle.toc_groups.specs.declared.pieces.Runs.{Runs}
 use Rattle.toc_groups.specs.declared.pieces.SectionAddresses.{SectionAddresses}
-use Rattle.toc_groups.specs.Runs.{run_end, run_place, IsFitExtent}
+use Rattle.toc_groups.specs.Runs.{run_end, run_place}
 use Rattle.toc_groups.specs.Sections.{sections_of, commons_of}
 use Rattle.toc_groups.specs.Groups.{group_extent, group_extents, group_count}
 use Rattle.toc_groups.specs.Data.{read_only_end, writable_start, groups_end, writable_end, zeroed_end, commons_end, data_end, data_refusal, group_start, address_walk}
 use Rattle.toc_groups.specs.inside.Limits.{past_limit}
 use Rattle.toc_groups.specs.inside.Laid.{room_of, AreStarts, AreGroupStarts, AreRuns, AreAddresses, AreLaid}
-use Rattle.toc_groups.specs.inside.Open.{IsGroup, AreGroups}
+use Rattle.toc_groups.specs.inside.Open.{AreGroups}
 use Rattle.toc_groups.proofs.Commons.{commons_fit}
 use Rattle.toc_groups.proofs.Laying.{aligned_least, run_grows, fit_before, passed}
 use Rattle.toc_groups.proofs.Placing.{groups_fit, address_count}

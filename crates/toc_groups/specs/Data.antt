@@ -1,6 +1,6 @@
 -- Where data lies: in a segment that is only read the read-only sections; in one that is written the TOC groups, the writable and the
 -- zeroed sections, and the commons (ELF64, "Program Header"; ELFv2 ABI, 3.3 "TOC"). Text comes behind.
-use Rattle.std.specs.Prelude.{ℕ, ◌+◌, ◌-◌, ◌*◌, List, [], ◌∷◌, ◌++◌, ◌==◌, nat_lt, length, map, take, position, Option, Some, None}
+use Rattle.std.specs.Prelude.{ℕ, ◌+◌, ◌-◌, ◌*◌, List, [], ◌∷◌, ◌++◌, ◌==◌, nat_lt, length, map, position, Option, Some, None}
 use Rattle.std.specs.Prelude.{if◌then◌else◌}
 use Rattle.std.specs.List.{range_with_len}
 use Rattle.std.specs.Option.{option_map}

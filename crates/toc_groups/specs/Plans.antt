@@ -1,9 +1,7 @@
 -- What contracts see of data that is laid out.
-use Rattle.std.specs.Prelude.{◌≡◌, ℕ, ℤ, ◌+◌, ◌*◌, ◌%◌, ◌<◌, ◌≤◌, ◌-◌, List, [], length, map, Option, Some, None, slice_index}
+use Rattle.std.specs.Prelude.{◌≡◌, ℕ, ◌+◌, ◌*◌, ◌<◌, List, [], length, map, Option, Some, None, slice_index}
 use Rattle.std.specs.List.{slice_index_or, range_with_len}
 use Rattle.std.specs.Option.{option_map}
-use Rattle.elf64_records.specs.Symbols.{symbol_count}
-use Rattle.object_set.specs.Files.{file_at}
 use Rattle.object_set.specs.Walks.{section_walk, index_of, all_items}
 use Rattle.symbol_table.specs.declared.target.Piece.{Piece}
 use Rattle.symbol_table.specs.declared.target.Piece.TheVariants.{Section, Common}

@@ -1,5 +1,5 @@
 -- Slots while they are numbered.
-use Rattle.std.specs.Prelude.{ℕ, ◌≡◌, ◌<◌, Bool, true, false, not, List, [], ◌∷◌, ◌||◌, ◌&&◌, ◌==◌, length, position, Option, Some, None, is_some}
+use Rattle.std.specs.Prelude.{ℕ, ◌≡◌, ◌<◌, Bool, true, false, not, List, ◌||◌, ◌&&◌, ◌==◌, length, position, Option, Some, None, is_some}
 use Rattle.std.specs.List.{list_any, slice_index_or}
 use Rattle.std.specs.Str.{bytes_eq}
 use Rattle.std.specs.Borrow.{Bor}

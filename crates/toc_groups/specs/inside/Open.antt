@@ -1,7 +1,6 @@
 -- TOC groups while files join them.
-use Rattle.std.specs.Prelude.{ℕ, zero, suc, ◌≡◌, ◌<◌, ◌≤◌, ◌+◌, List, [], length, map, Option, Some, MatchOption, slice_get}
+use Rattle.std.specs.Prelude.{ℕ, suc, ◌≡◌, ◌<◌, ◌+◌, List, [], length, map, Option, Some, MatchOption, slice_get}
 use Rattle.std.specs.List.{range_with_len}
-use Rattle.object_set.specs.declared.places.SymbolId.{SymbolId}
 use Rattle.toc_groups.specs.declared.groups.TocGroup.{TocGroup}
 use Rattle.toc_groups.specs.declared.groups.OpenGroup.{OpenGroup}
 use Rattle.toc_groups.specs.declared.groups.Joined.{Joined}

@@ -1,5 +1,5 @@
 -- A plan that can be read.
-use Rattle.std.specs.Prelude.{ℕ, ◌≡◌, ◌<◌, ◌≤◌, ◌+◌, ◌*◌, ◌^◌, List, [], length, Option, Some, None, slice_index}
+use Rattle.std.specs.Prelude.{ℕ, ◌≡◌, ◌<◌, ◌+◌, ◌*◌, ◌^◌, List, [], length, Option, Some, None, slice_index}
 use Rattle.std.specs.List.{slice_index_or}
 use Rattle.toc_groups.specs.declared.slots.TheConstants.{SLOT_SIZE}
 

@@ -1,11 +1,10 @@
 -- A section that is a `.toc` is fit and small, and comes to the ends.
-use Rattle.std.proofs.Common.{◌≡◌, true, List, [], ◌∷◌, ◌++◌, ap, sym, subst, ◌∙◌, arith}
+use Rattle.std.proofs.Common.{◌≡◌, List, [], ◌∷◌, ◌++◌, ap, sym, subst, ◌∙◌, arith}
 use Rattle.object_set.specs.declared.sort.Sort.TheVariants.{Toc}
 use Rattle.object_set.specs.Files.{file_at}
-use Rattle.object_set.specs.Sections.{sort_of}
 use Rattle.toc_groups.specs.declared.extents.Extent.{Extent}
 use Rattle.toc_groups.specs.Runs.{IsFitExtent}
-use Rattle.toc_groups.specs.Sections.{same_sort, section_extent, extent_at}
+use Rattle.toc_groups.specs.Sections.{section_extent, extent_at}
 use Rattle.toc_groups.specs.inside.Ends.{AreEnds}
 use Rattle.toc_groups.proofs.Bounds.{small_toc}
 use Rattle.toc_groups.proofs.Adding.{one_toc, fit_toc}

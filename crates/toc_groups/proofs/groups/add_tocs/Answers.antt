@@ -1,5 +1,5 @@
 -- add_toc-requires-clause-low: the ends are low so far. loop-section-preserved: one section more. returns: all sections.
-use Rattle.std.proofs.Common.{◌≡◌, ℕ, List, ◌++◌, ap, sym, subst, ◌∙◌, arith}
+use Rattle.std.proofs.Common.{◌≡◌, ℕ, ◌++◌, ap, subst, ◌∙◌, arith}
 use Rattle.elf64_records.specs.FileHeader.{e_shnum}
 use Rattle.object_set.specs.declared.sort.Sort.TheVariants.{Toc}
 use Rattle.object_set.specs.Files.{file_at}

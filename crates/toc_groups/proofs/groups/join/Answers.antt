@@ -1,6 +1,6 @@
 -- returns-then-file-open_group: the file joins the group. whole-requires: the slots of before are among those of now. returns: the file
 -- begins the next group.
-use Rattle.std.proofs.Common.{◌≡◌, ◌+◌, ℕ, suc, List, inl, inr, ap, sym, subst, ◌∙◌, refl}
+use Rattle.std.proofs.Common.{◌≡◌, ◌+◌, ℕ, suc, List, inl, inr, ap, subst, ◌∙◌, refl}
 use Rattle.toc_groups.specs.inside.Numbered.{SlotList}
 use Rattle.toc_groups.specs.inside.Open.{IsOpen, IsNumbered}
 use Rattle.toc_groups.proofs.Grouping.{stays, before_fits, fills}

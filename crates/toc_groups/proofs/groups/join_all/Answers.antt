@@ -1,9 +1,9 @@
 -- overflow_cast-len: groups are no more than files. loop-file-preserved: one file more has joined.
-use Rattle.std.proofs.Common.{◌≡◌, ◌+◌, ℕ, suc, List, length, ap, sym, subst, ◌∙◌, add-one, arith}
+use Rattle.std.proofs.Common.{ℕ, suc, List, length, ap, sym, subst, ◌∙◌, add-one, arith}
 use Rattle.toc_groups.specs.declared.groups.TocGroup.{TocGroup}
 use Rattle.toc_groups.specs.Groups.{group_after}
 use Rattle.toc_groups.specs.inside.Numbered.{SlotList}
-use Rattle.toc_groups.specs.inside.Open.{IsOpen, IsJoined, AreJoined}
+use Rattle.toc_groups.specs.inside.Open.{IsJoined}
 use Rattle.toc_groups.proofs.Grouping.{full_count, number_most, more_joined}
 use Rattle.toc_groups.proofs.groups.join_all.Goals as goal
 

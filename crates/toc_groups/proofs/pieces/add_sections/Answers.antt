@@ -1,5 +1,5 @@
 -- returns-in_err: a section that passes the end of data. loop-section-preserved: one section more. returns-clause-end: all sections.
-use Rattle.std.proofs.Common.{◌≡◌, ◌<◌, ◌+◌, ℕ, ap, sym, subst, ◌∙◌, add-one, arith}
+use Rattle.std.proofs.Common.{◌≡◌, ◌<◌, ℕ, ap, sym, ◌∙◌, add-one, arith}
 use Rattle.elf64_records.specs.FileHeader.{e_shnum}
 use Rattle.object_set.specs.Files.{file_at}
 use Rattle.object_set.specs.Walks.{items_in}

@@ -1,7 +1,6 @@
 -- push_places-requires: groups may be laid out.
 use Rattle.std.proofs.Common.{◌∙◌, sym, subst}
 use Rattle.std.specs.List.{AllByRecursion}
-use Rattle.toc_groups.specs.declared.extents.Extent.{Extent}
 use Rattle.toc_groups.specs.Runs.{IsFitExtent}
 use Rattle.toc_groups.proofs.Placing.{rooms_fit}
 use Rattle.toc_groups.proofs.pieces.group_starts.Goals as goal

@@ -2,7 +2,6 @@
 use Rattle.std.proofs.Common.{◌≡◌, ℕ, List, length, ap, sym, subst, ◌∙◌, arith}
 use Rattle.std.specs.List.{AllByRecursion}
 use Rattle.object_set.specs.Refusals.{set_refusal}
-use Rattle.toc_groups.specs.declared.extents.Extent.{Extent}
 use Rattle.toc_groups.specs.Runs.{IsFitExtent}
 use Rattle.toc_groups.specs.Sections.{commons_of}
 use Rattle.toc_groups.specs.inside.Laid.{AreRuns, AreAddresses}

@@ -5,10 +5,9 @@ use Rattle.std.proofs.lemmas.Result.{err_from_is_err_and}
 use Rattle.object_set.specs.declared.sort.Sort.TheVariants.{Zeroed, Writable}
 use Rattle.toc_groups.specs.declared.extents.TheConstants.{DATA_END}
 use Rattle.toc_groups.specs.declared.groups.TocGroup.{TocGroup}
-use Rattle.toc_groups.specs.declared.pieces.GroupStarts.{GroupStarts}
 use Rattle.toc_groups.specs.Runs.{run_end}
 use Rattle.toc_groups.specs.Sections.{sections_of}
-use Rattle.toc_groups.specs.Data.{read_only_end, groups_end, writable_end, zeroed_end}
+use Rattle.toc_groups.specs.Data.{read_only_end, writable_end, zeroed_end}
 use Rattle.toc_groups.specs.inside.Limits.{past_limit}
 use Rattle.toc_groups.specs.inside.Laid.{room_of, AreStarts}
 use Rattle.toc_groups.proofs.Laying.{within_limit}

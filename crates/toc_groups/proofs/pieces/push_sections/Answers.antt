@@ -1,16 +1,12 @@
 -- index-requires, toc_start-requires, bounds: the file's group is there, with its start, and its slots are few. lay_section-requires: data
 -- has room. loop-section: one section more. returns: all sections.
-use Rattle.std.proofs.Common.{◌≡◌, ◌<◌, ◌≤◌, ◌+◌, ◌++◌, ℕ, List, length, get_or, sym, subst, ap, ◌∙◌, arith}
+use Rattle.std.proofs.Common.{◌≡◌, ◌+◌, ◌++◌, ℕ, List, length, get_or, sym, subst, ap, ◌∙◌, arith}
 use Rattle.std.proofs.lemmas.List.{append-nil}
 use Rattle.std.proofs.lemmas.List.FromFn.{length-map-range_with_len}
-use Rattle.object_set.specs.laws.Rows.{index_read}
 use Rattle.elf64_records.specs.FileHeader.{e_shnum}
-use Rattle.object_set.specs.declared.sort.Sort.{Sort}
 use Rattle.object_set.specs.Files.{file_at}
-use Rattle.object_set.specs.Sections.{sort_of}
 use Rattle.object_set.specs.Walks.{items_in}
 use Rattle.toc_groups.specs.declared.extents.Extent.{Extent}
-use Rattle.toc_groups.specs.declared.pieces.Ends.{Ends}
 use Rattle.toc_groups.specs.Groups.{group_number}
 use Rattle.toc_groups.specs.Sections.{section_extent}
 use Rattle.toc_groups.specs.Data.{address_walk, section_address}

@@ -1,5 +1,5 @@
 -- returns-in_err: a file that passes the end of data. loop-file-preserved: one file more. returns-clause-end: all files.
-use Rattle.std.proofs.Common.{◌≡◌, ◌<◌, ◌+◌, ℕ, ap, sym, ◌∙◌, add-one, arith, length}
+use Rattle.std.proofs.Common.{◌<◌, ℕ, ap, sym, ◌∙◌, add-one, arith, length}
 use Rattle.elf64_records.specs.FileHeader.{e_shnum}
 use Rattle.object_set.specs.Files.{file_at}
 use Rattle.object_set.specs.Walks.{items_in, items_before}

@@ -1,8 +1,7 @@
 -- bases_of-requires: the group of each file has a start, and starts are low. invariant_of-result and returns-clause-plan: the plan is that
 -- of the files, and can be read.
-use Rattle.std.proofs.Common.{◌≡◌, ◌<◌, ◌≤◌, ◌^◌, ℕ, List, map, length, get_or, refl, ap, sym, subst, ◌∙◌, arith}
+use Rattle.std.proofs.Common.{◌≡◌, ◌<◌, ◌≤◌, ℕ, List, map, length, get_or, refl, ap, sym, subst, ◌∙◌, arith}
 use Rattle.object_set.specs.Refusals.{set_refusal}
-use Rattle.toc_groups.specs.Data.{groups_end}
 use Rattle.toc_groups.specs.inside.Laid.{AreLaid, base_at}
 use Rattle.toc_groups.specs.inside.Open.{AreGroups}
 use Rattle.toc_groups.proofs.Planning.{known_start, starts_are_low, safe, is_plan}

@@ -1,6 +1,6 @@
 -- add_file-requires: no symbol of the file has a slot. behind_slots-requires: slots are few, and ends low. returns: the group has the
 -- file, and the numbers are those of its slots there.
-use Rattle.std.proofs.Common.{◌≡◌, ℕ, suc, List, ap, ◌∙◌, arith, refl}
+use Rattle.std.proofs.Common.{◌≡◌, suc, ap, ◌∙◌, arith, refl}
 use Rattle.std.specs.List.{list_any}
 use Rattle.toc_groups.specs.Groups.{tocs_of}
 use Rattle.toc_groups.specs.inside.Numbered.{SlotList, is_symbol}

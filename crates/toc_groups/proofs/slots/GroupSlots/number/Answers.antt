@@ -1,6 +1,6 @@
 -- is_local: a symbol that only its file sees has no slot yet, and gets one. in-Some: the name has a slot. in-None: the name has none, and
 -- gets one.
-use Rattle.std.proofs.Common.{◌≡◌, true, false, Some, None, ap, sym, subst, ◌∙◌}
+use Rattle.std.proofs.Common.{◌≡◌, true, Some, None, ap, sym, subst, ◌∙◌}
 use Rattle.object_set.specs.Files.{file_at}
 use Rattle.object_set.specs.Symbols.{is_local}
 use Rattle.toc_groups.specs.Slots.{shares_slot}

@@ -1,5 +1,5 @@
 -- invariant_of-self-in-Ok: the map has the new slot's name.
-use Rattle.std.proofs.Common.{◌≡◌, List, ℕ, false, arith, sym, subst, ◌∙◌}
+use Rattle.std.proofs.Common.{◌≡◌, List, false, arith, sym, subst}
 use Rattle.std.specs.List.{list_any}
 use Rattle.object_set.specs.declared.places.SymbolId.{SymbolId}
 use Rattle.object_set.specs.Files.{file_at}

@@ -1,5 +1,5 @@
 -- returns: the ends of the sections behind the slots of the last turn tell the end behind all.
-use Rattle.std.proofs.Common.{ℕ, List, ◌%◌, arith, refl, sym, subst}
+use Rattle.std.proofs.Common.{◌%◌, arith, refl, sym, subst}
 use Rattle.object_set.specs.laws.Rows.{index_read}
 use Rattle.toc_groups.specs.inside.Ends.{AreEnds}
 use Rattle.toc_groups.proofs.Turns.{ends_later}
