@@ -1,6 +1,7 @@
 // Resolution of small sets of files: how it refuses them, and where the program is entered.
 mod many;
 mod objects;
+mod records;
 mod shared;
 mod stands;
 

@@ -93,7 +93,7 @@ fn symbol<'a>(named: &Named<'a>) -> Symbol<'a> {
 }
 
 /// An object of these parts.
-fn of_parts<'a>(sections: &'a [Section<'a>], symbols: &'a [Symbol<'a>]) -> Object<'a> {
+pub fn of_parts<'a>(sections: &'a [Section<'a>], symbols: &'a [Symbol<'a>]) -> Object<'a> {
     Object {
         header: FileHeader::OBJECT,
         sections,
