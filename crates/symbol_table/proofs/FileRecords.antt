@@ -72,10 +72,11 @@ fields_are files file file_in =
     All-map (IsFieldOf files file) (field_of b) (records_of file b)
     (λ k d within.
     let this = records k d within in
+    let r = slice_index_or (records_of file b) k d in
     record {
       record_in = this.record_in;
       file_is = this.file_is;
-      width_most = width_narrow (kind_numbered (rela_of b (slice_index_or (records_of file b) k d).table (slice_index_or (records_of file b) k d).entry).kind);
+      width_most = width_narrow (kind_numbered (rela_of b r.table r.entry).kind);
     })
 
 -- in any order
@@ -84,7 +85,8 @@ pub items_are : (files : List (List ℕ)) (file : ℕ) (items : List RecordField
 items_are files file items are =
     All-permutation (IsFieldOf files file) (fields_of file (file_at files file)) items are.same (fields_are files file are.file_in)
 
-module _ (file : ℕ) (b : List ℕ) (items window : List RecordField) (r : RecordId) (found : Bool) (same : IsPermutation (fields_of file b) items) where
+module _ (file : ℕ) (b : List ℕ) (items window : List RecordField) (r : RecordId) (found : Bool)
+    (same : IsPermutation (fields_of file b) items) where
   -- what is so of a window of the fields in another order
   abbrev IsFoundIn : RecordField → Type 0
   IsFoundIn g =

@@ -1,5 +1,5 @@
--- Where the field of each kind of relocation may stand, and on which words (ELFv2 ABI, "Relocation Types Table" and "Relocation Fields"; Power
--- ISA 3.1, book I, "Instruction Formats").
+-- Where the field of each kind of relocation may stand, and on which words (ELFv2 ABI, "Relocation Types Table" and "Relocation
+-- Fields"; Power ISA 3.1, book I, "Instruction Formats").
 use Rattle.std.specs.Prelude.{ℕ, ◌/◌, ◌%◌, ◌^◌, Bool, true, false, not, ◌&&◌, ◌||◌, ◌==◌, nat_le}
 use Rattle.object_set.specs.declared.sort.Sort.{Sort}
 use Rattle.object_set.specs.Sections.{is_text_sort}

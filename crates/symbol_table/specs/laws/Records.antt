@@ -102,10 +102,11 @@ kind_parts files r kind none fills =
     let b = file_at files r.file in
     let bad = is_outside b r kind || is_unfit b r kind in
     let out = is_left_out b r kind in
-    let all : Option Refusal = when bad (BadSite (site_of b r)) orelse (when out (UnsupportedAt (site_of b r)) orelse target_refusal files r kind) in
+    let later : Option Refusal = when out (UnsupportedAt (site_of b r)) orelse target_refusal files r kind in
+    let all : Option Refusal = when bad (BadSite (site_of b r)) orelse later in
     let some : eqb (line_of kind).width 0 ≡ false = grind (arith, nat_tests) in
     let rest : all ≡ None = sym (ap (λ (t : Bool). if t then None else all) some) ∙ none in
-    let first = both_none (when bad (BadSite (site_of b r))) (when out (UnsupportedAt (site_of b r)) orelse target_refusal files r kind) rest in
+    let first = both_none (when bad (BadSite (site_of b r))) later rest in
     let second = both_none (when out (UnsupportedAt (site_of b r))) (target_refusal files r kind) first.1 in
     (when_none bad (BadSite (site_of b r)) first.0, when_none out (UnsupportedAt (site_of b r)) second.0, second.1)
 
@@ -144,7 +145,8 @@ field_sound files r kind none fills =
       target = goes_case files r kind (looks_at_symbol kind) parts.2;
     }
 
-known_case : (files : List (List ℕ)) (r : RecordId) (o : Option Kind) → kind_numbered (rela_of (file_at files r.file) r.table r.entry).kind ≡ o →
+known_case : (files : List (List ℕ)) (r : RecordId) (o : Option Kind) →
+    kind_numbered (rela_of (file_at files r.file) r.table r.entry).kind ≡ o →
     known_refusal files r o ≡ None → IsSoundRecord files r
 known_case files r None is none = cc
 known_case files r (Some kind) is none = record { kind = kind; kind_is = is; field = field_sound files r kind none }
@@ -252,5 +254,5 @@ pub fields_apart : (files : List (List ℕ)) (q r : RecordId) → overlaps_earli
 fields_apart files q r apart is same section before some some_too =
     let b = file_at files r.file in
     let none = meets_case files q r (meets r.section (field_of b r).start (field_of b r).width (field_of b q)) is same before refl apart in
-    ranges_apart q.section r.section (field_of b q).start (field_of b q).width (field_of b r).start (field_of b r).width section some some_too
-    none
+    ranges_apart q.section r.section (field_of b q).start (field_of b q).width (field_of b r).start (field_of b r).width section some
+    some_too none

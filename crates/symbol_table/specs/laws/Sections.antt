@@ -26,7 +26,8 @@ no_fault file b passes =
 file_whole : (file : ℕ) (b : List ℕ) → file_refusal file b ≡ None → object_fault b ≡ None
 unfolding file_refusal
 file_whole file b passes =
-    let rest = both_none (length_refusal file b) (fault_refusal file b orelse (sections_refusal file b orelse symbols_refusal file b)) passes in
+    let rest = both_none (length_refusal file b)
+    (fault_refusal file b orelse (sections_refusal file b orelse symbols_refusal file b)) passes in
     no_fault file b (both_none (fault_refusal file b) (sections_refusal file b orelse symbols_refusal file b) rest.1).0
 
 -- the section that a record is about is one of its file, and is kept
@@ -34,7 +35,8 @@ pub record IsAbout (b : List ℕ) (section : ℕ) : Type 0 where
   pub within : section < e_shnum b
   pub kept : is_kept_sort (sort_of b section) ≡ true
 
-about_case : (b : List ℕ) (table k : ℕ) → object_fault b ≡ None → table < e_shnum b → has_records b table ≡ true → IsAbout b (sh_info b table)
+about_case : (b : List ℕ) (table k : ℕ) → object_fault b ≡ None → table < e_shnum b → has_records b table ≡ true →
+    IsAbout b (sh_info b table)
 about_case b table k whole within has =
     let rela : is_rela b table ≡ true = grind (arith, has) in
     let kept : is_kept b (sh_info b table) ≡ true = grind (arith, has) in

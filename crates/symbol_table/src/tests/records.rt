@@ -455,8 +455,8 @@ fn a_number_is_that_of_a_kind(rt: HostRuntime) -> Result<(), Fail> {
     all_judged(&rt, rt.alloc(), NUMBERS)
 }
 
-/// Prologues with both halves; with other entry points, one half, other words, addends, symbols and places; with a later field that has bytes
-/// of them, and with other records.
+/// Prologues with both halves; with other entry points, one half, other words, addends, symbols and places; with a later field that has
+/// bytes of them, and with other records.
 const PROLOGUES: &str = "\
 text | 3C4C1234 3842FFFF | 3 | 0 252 .TOC. 0; 4 250 .TOC. 4 | links
 text | 3C4C1234 3842FFFF | 3 | 4 250 .TOC. 4; 0 252 .TOC. 0 | links

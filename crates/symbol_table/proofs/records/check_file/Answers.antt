@@ -19,6 +19,7 @@ pub returns : goal.returns
 returns c =
     let files = c.args.resolved.now.files in
     let b = file_at files c.args.file in
-    let count = c.section_count-table-end.ensures.count ∙ ap e_shnum c.view.ensures ∙ ap (λ s. e_shnum (file_at s c.args.file)) c.set.ensures in
+    let count = c.section_count-table-end.ensures.count ∙ ap e_shnum c.view.ensures
+    ∙ ap (λ s. e_shnum (file_at s c.args.file)) c.set.ensures in
     let past : e_shnum b ≤ c.loop-table.table = omega (arith, count, c.loop-table-test.false) in
     sym c.loop-table.invariant ∙ walk_end (table_refusal files c.args.file) c.loop-table.table (e_shnum b) past

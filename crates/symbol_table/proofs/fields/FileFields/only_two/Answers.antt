@@ -33,4 +33,6 @@ returns-clause-records c =
     let m = meets c.args.section c.args.from c.args.count in
     let holds = c.window.ensures ∙ ap (filter m) c.deref.ensures.value in
     two_are m (fields_of file (file_at set file)) items c.window.result.now holds (IsFieldOf c.args.self.now.files c.args.self.now.file)
-    c.only_two.result (subst (λ (f : FileOf). All (IsFieldOf f.files f.file) items) c.self.view_is (items_are set file items c.self.invariant)) c.only_two.ensures
+    c.only_two.result
+    (subst (λ (f : FileOf). All (IsFieldOf f.files f.file) items) c.self.view_is (items_are set file items c.self.invariant))
+    c.only_two.ensures

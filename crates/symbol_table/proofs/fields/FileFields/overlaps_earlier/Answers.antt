@@ -24,6 +24,8 @@ returns c =
     let same : IsPermutation (fields_of r.file b) items =
     subst (λ (n : ℕ). IsPermutation (fields_of n (file_at c.self.inside.set.now n)) items) (sym number) c.self.invariant.same in
     let field = c.of_record-field.result in
-    let holds = c.window.ensures ∙ ap (λ (l : List RecordField). filter (meets r.section field.start field.width) l) c.deref.ensures.value in
+    let m = meets r.section field.start field.width in
+    let holds = c.window.ensures ∙ ap (λ (l : List RecordField). filter m l) c.deref.ensures.value in
     subst (λ (f : FileOf). c.has_earlier.result ≡ overlaps_earlier r.file (file_at f.files r.file) r) c.self.view_is
-    (earlier_found r.file b items c.window.result.now r c.has_earlier.result same field c.of_record-field.ensures holds c.has_earlier.ensures)
+    (earlier_found r.file b items c.window.result.now r c.has_earlier.result same field c.of_record-field.ensures holds
+    c.has_earlier.ensures)

@@ -36,7 +36,8 @@ returns-in-Some c =
     let found = c.in-Some.ensures.lookup.3 in
     let within = subst (λ (l : List FilePlace). next < length l) c.deref-2.ensures.value found.0 in
     let is = subst (λ (l : List FilePlace). (d : FilePlace) → p ≡ slice_index_or l next d) c.deref-2.ensures.value found.1 in
-    let after : this ≤ rank p = subst (λ (q : FilePlace). this ≤ rank q) (sym (is p)) (after_point rank this items next here next p (omega arith) within) in
+    let after : this ≤ rank p =
+    subst (λ (q : FilePlace). this ≤ rank q) (sym (is p)) (after_point rank this items next here next p (omega arith) within) in
     c.is_at.ensures.is
     ∙ first_left items c.args.section c.args.at next (before_point rank this items next here) p c.self.invariant within is
     c.is_at.ensures.fits c.ranges.at.fits after
