@@ -18,7 +18,9 @@ use Rattle.object_set.specs.laws.Fit.{file_fit, section_fit}
 use Rattle.symbol_table.specs.declared.target.CodePlace.{CodePlace}
 use Rattle.symbol_table.specs.Text.{text_sections}
 use Rattle.symbol_table.specs.Candidates.{duplicate_refusal}
-use Rattle.symbol_table.specs.Targets.{entry_place, entry_refusal, resolve_refusal}
+use Rattle.symbol_table.specs.Refusals.{resolve_refusal}
+use Rattle.symbol_table.specs.Records.{records_refusal}
+use Rattle.symbol_table.specs.Targets.{entry_place, entry_refusal}
 use Rattle.object_set.specs.declared.places.SectionId.{SectionId}
 use Rattle.symbol_table.specs.Resolved.{ResolvedFiles, section_id}
 use Rattle.symbol_table.specs.laws.Text.{text_index_found, text_index_within}
@@ -155,6 +157,7 @@ pub entered : (set contents : List (List ℕ)) (entry : List ℕ) (r : ResolvedF
     resolve_refusal set entry ≡ None →
     r.files ≡ set → r.entry ≡ entry_place set entry → IsEntered r.files r.entry
 entered set contents entry r same whole resolved is place =
-    let passes = (both_none (duplicate_refusal set) (entry_refusal set entry) resolved).1 in
+    let rest = (both_none (duplicate_refusal set) (entry_refusal set entry orelse records_refusal set) resolved).1 in
+    let passes = (both_none (entry_refusal set entry) (records_refusal set) rest).0 in
     let inside = entry_instruction set entry (ap set_refusal same ∙ whole) passes in
     subst (λ (s : List (List ℕ)). IsEntered s r.entry) (sym is) (subst (IsEntered set) (sym place) inside)

@@ -6,12 +6,14 @@ use Rattle.elf64_exec.specs.Executable.{executable}
 use Rattle.elf64_records.specs.First.{◌orelse◌}
 use Rattle.object_set.specs.Refusals.{set_refusal}
 use Rattle.object_set.specs.declared.refusal.Refusal.{Refusal}
-use Rattle.symbol_table.specs.Targets.{entry_place, resolve_refusal}
+use Rattle.symbol_table.specs.Refusals.{resolve_refusal}
+use Rattle.symbol_table.specs.Targets.{entry_place}
 use Rattle.link_engine.specs.declared.files.Linked.{Linked}
 use Rattle.link_engine.specs.Options.{LinkOptions}
 use Rattle.link_engine.specs.Stage.{not_built, text_of}
 
--- why a link of files is refused: a file by itself; names and the entry; what can't be linked yet
+-- why a link of files is refused: a file by itself; names, the entry and relocation records; what can't be
+-- linked yet
 abbrev pub first_refusal : List (List ℕ) → LinkOptions → Option Refusal
 first_refusal files options =
     set_refusal files

@@ -67,9 +67,9 @@ fn image_of(alloc: Global, files: &[FileBytes], options: &Options) -> Result<Vec
     }
 }
 
-/// Links files. The refusal is the first in the stated order: of each file by itself, in order; of a name that is defined twice, and of
-/// the entry; of the first file that can't be linked yet. Else the image is the executable of the files' only kept section, which is
-/// entered at the global entry point of what the entry's name stands for (ELFv2 ABI, 3.4.1 "Symbol Values").
+/// Links files. The refusal is the first in the stated order: of each file by itself, in order; of a name that is defined twice, of the
+/// entry, and of a relocation record; of the first file that can't be linked yet. Else the image is the executable of the files' only kept
+/// section, which is entered at the global entry point of what the entry's name stands for (ELFv2 ABI, 3.4.1 "Symbol Values").
 pub fn link<L: Ledger>(
     alloc: Global,
     files: &[FileBytes],

@@ -4,7 +4,7 @@ use Rattle.std.specs.Prelude.{Result, Ok, Err}
 use Rattle.elf64_records.specs.First.{◌orelse◌}
 use Rattle.object_set.specs.Refusals.{set_refusal}
 use Rattle.object_set.specs.declared.refusal.Refusal.{Refusal}
-use Rattle.symbol_table.specs.Targets.{resolve_refusal}
+use Rattle.symbol_table.specs.Refusals.{resolve_refusal}
 use Rattle.link_engine.specs.Options.{LinkOptions}
 use Rattle.link_engine.specs.Stage.{not_built}
 use Rattle.link_engine.specs.Link.{first_refusal, image_of, GivesImage, LinkOutcome, LinksTo, LinksComeToSomething, LinksAreOne}
