@@ -26,7 +26,11 @@ fn calls_with_a_toc_base_are_classed(rt: HostRuntime) {
             same_group,
         };
         assert_eq!(rt; class_of(Linkage::WithToc, callee), class, "{callee:?}");
-        assert_eq!(rt; entry_offset(Linkage::WithToc, callee), offset, "{callee:?}");
+        assert_eq!(rt;
+            entry_offset(Linkage::WithToc, callee),
+            offset,
+            "{callee:?}"
+        );
         assert_eq!(rt; changes_r2(class), restored, "{callee:?}");
     }
 }
@@ -73,10 +77,22 @@ const CALL: CallSite = CallSite {
 
 #[test]
 fn a_site_has_the_words_of_its_class(rt: HostRuntime) {
-    let nop = CallSite { class: None, slot: true, ..CALL };
-    let restored = CallSite { class: Some(Class::Save), slot: true, restore: true, ..CALL };
+    let nop = CallSite {
+        class: None,
+        slot: true,
+        ..CALL
+    };
+    let restored = CallSite {
+        class: Some(Class::Save),
+        slot: true,
+        restore: true,
+        ..CALL
+    };
     let kept = CallSite { slot: true, ..CALL };
-    let tail = CallSite { link: false, ..CALL };
+    let tail = CallSite {
+        link: false,
+        ..CALL
+    };
     for (site, disp, words) in [
         (CALL, 0x40, (0x4800_0041, None)),
         (CALL, -0x400, (0x4BFF_FC01, None)),

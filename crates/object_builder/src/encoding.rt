@@ -88,7 +88,12 @@ pub(crate) fn record_bytes(record: &Record) -> [u8; 24] {
 
 /// The 64 bytes of a file header: where the section headers begin, how many there are, and which section holds their names, unless
 /// other values are stated (ELF64, "ELF Header").
-pub(crate) fn file_header_bytes(header: &FileHeader, start: u64, count: u16, names: u16) -> [u8; 64] {
+pub(crate) fn file_header_bytes(
+    header: &FileHeader,
+    start: u64,
+    count: u16,
+    names: u16,
+) -> [u8; 64] {
     let mut bytes = [0; 64];
     bytes[0] = header.magic[0];
     bytes[1] = header.magic[1];
