@@ -119,6 +119,20 @@ fn symbol(named: Named) -> Symbol<'static> {
     }
 }
 
+/// An object of these parts.
+fn of_parts<'a>(sections: &'a [Section<'a>], symbols: &'a [Symbol<'a>]) -> Object<'a> {
+    Object {
+        header: FileHeader::OBJECT,
+        sections,
+        null_symbol: Symbol::NULL,
+        symbols,
+        null_section: Stated::TRUE,
+        symbol_table: Stated::TRUE,
+        symbol_names: Stated::TRUE,
+        section_names: Stated::TRUE,
+    }
+}
+
 /// The bytes of a file, which has a WEAK `_start` as its last symbol.
 fn file_bytes(alloc: Global, file: &File, zeros: &[u8]) -> Result<Vec<u8>, Fail> {
     let mut code = Vec::new(alloc);
@@ -150,17 +164,7 @@ fn file_bytes(alloc: Global, file: &File, zeros: &[u8]) -> Result<Vec<u8>, Fail>
         info: STB_WEAK << 4,
         ..Symbol::START
     })?;
-    let object = Object {
-        header: FileHeader::OBJECT,
-        sections: &sections,
-        null_symbol: Symbol::NULL,
-        symbols: &symbols,
-        null_section: Stated::TRUE,
-        symbol_table: Stated::TRUE,
-        symbol_names: Stated::TRUE,
-        section_names: Stated::TRUE,
-    };
-    Ok(object.file(alloc)?)
+    Ok(of_parts(&sections, &symbols).file(alloc)?)
 }
 
 /// The plan of files with a TOC span, or why there is none.
