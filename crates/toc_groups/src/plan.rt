@@ -1,7 +1,8 @@
 // The plan of data: where the pieces of data, the TOC bases and the slots lie, and where text starts.
-ghost use Rattle.std.specs.Prelude.{◌≡◌, ◌<◌, ◌≤◌, ◌^◌, ℕ, None, Some, IfOk, length, map, slice_get, slice_index};
+ghost use Rattle.std.specs.Prelude.{◌≡◌, ◌<◌, ◌≤◌, ◌^◌, ℕ, None, Some, IfOk, IsTrue, length, map, slice_get, slice_index};
 ghost use Rattle.std.specs.Int.{cast_unsigned, w64};
 ghost use Rattle.object_set.specs.Refusals.{Answers};
+ghost use Rattle.symbol_table.specs.declared.target.Piece.TheVariants.{Section};
 ghost use Rattle.symbol_table.specs.Targets.{plus_addend};
 ghost use Rattle.toc_groups.specs.Groups.{IsTocSpan};
 ghost use Rattle.toc_groups.specs.Data.{data_refusal};
@@ -146,6 +147,38 @@ impl DataPlan {
         ensures { result ≡ self.now.text_start }
     {
         self.text_start
+    }
+}
+
+/// What a test looks at before it reads a plan.
+#[cfg(test)]
+impl DataPlan {
+    /// Whether the slot of a symbol of a file may be asked for.
+    pub fn has_symbol(&self, file: u32, symbol: u32) -> bool
+        ensures { IsTrue result → IsLaidSymbol self.now file symbol }
+    {
+        (file as usize) < self.groups.numbers.len()
+            && u64::from(symbol) < self.groups.rows[file as usize].count()
+    }
+
+    /// Whether the address of a section may be asked for.
+    pub fn has_section(&self, file: u32, section: u32) -> bool
+        ensures { IsTrue result → IsLaidPiece self.now (Section file section) }
+    {
+        if file as usize >= self.pieces.addresses.firsts.len() {
+            return false;
+        }
+        match self.pieces.addresses.firsts[file as usize].checked_add(u64::from(section)) {
+            Some(index) => index < self.pieces.commons,
+            None => false,
+        }
+    }
+
+    /// Whether the base of a file may be asked for.
+    pub fn has_file(&self, file: u32) -> bool
+        ensures { IsTrue result → file < length self.now.bases }
+    {
+        (file as usize) < self.bases.len()
     }
 }
 

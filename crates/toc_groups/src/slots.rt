@@ -46,6 +46,13 @@ impl Model for SlotRow {
 }
 
 impl SlotRow {
+    /// How many symbols the file has.
+    pub fn count(&self) -> u64
+        ensures { result ≡ length self.now }
+    {
+        self.items.len() as u64
+    }
+
     /// The number of a symbol's slot, if a load of the file names the symbol.
     pub fn of_symbol(&self, symbol: u32) -> Option<u64>
         requires { symbol < length self.now }

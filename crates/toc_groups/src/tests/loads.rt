@@ -2,6 +2,7 @@
 use super::files::Named::{Elsewhere, Here, Own, Perhaps};
 use super::files::Room::Toc;
 use super::files::{File, plan};
+use crate::DataPlan;
 use std::test::Fail;
 use symbol_table::{Piece, Target};
 
@@ -24,6 +25,39 @@ const FILES: [File; 3] = [
     },
 ];
 
+/// The slot of a symbol of a file, which has one with this number.
+fn slot(plan: &DataPlan, file: u32, symbol: u32) -> Result<Option<u64>, Fail> {
+    if plan.has_symbol(file, symbol) {
+        Ok(plan.slot(file, symbol))
+    } else {
+        Err(Fail::new("no such symbol"))
+    }
+}
+
+/// The address of an offset in a section of a file, which has one with this number.
+fn address(plan: &DataPlan, file: u32, section: u32, addend: i64) -> Result<Option<u64>, Fail> {
+    if plan.has_section(file, section) {
+        Ok(plan.address(Target::Data {
+            piece: Piece::Section(file, section),
+            addend,
+        }))
+    } else {
+        Err(Fail::new("no such section"))
+    }
+}
+
+/// The address of an offset from the TOC base of a file, and the base.
+fn base(plan: &DataPlan, file: u32, addend: i64) -> Result<(Option<u64>, u64), Fail> {
+    if plan.has_file(file) {
+        Ok((
+            plan.address(Target::TocBase { file, addend }),
+            plan.base_of(file),
+        ))
+    } else {
+        Err(Fail::new("no such file"))
+    }
+}
+
 #[test]
 fn a_name_has_one_slot_in_a_group(rt: HostRuntime) -> Result<(), Fail> {
     let plan = plan(rt.alloc(), &FILES, 48)?;
@@ -42,8 +76,8 @@ fn a_name_has_one_slot_in_a_group(rt: HostRuntime) -> Result<(), Fail> {
         (2, 2, Some(0x1000_0108)),
         (2, 1, None),
     ];
-    for (file, symbol, slot) in wanted {
-        assert_eq!(rt; plan.slot(file, symbol), slot);
+    for (file, symbol, wanted) in wanted {
+        assert_eq!(rt; slot(&plan, file, symbol)?, wanted);
     }
     Ok(())
 }
@@ -51,26 +85,17 @@ fn a_name_has_one_slot_in_a_group(rt: HostRuntime) -> Result<(), Fail> {
 #[test]
 fn targets_have_addresses_but_for_those_in_text(rt: HostRuntime) -> Result<(), Fail> {
     let plan = plan(rt.alloc(), &FILES, 48)?;
-    let toc = Target::Data {
-        piece: Piece::Section(0, 2),
-        addend: 4,
-    };
-    assert_eq!(rt; plan.address(toc), Some(0x1000_002C));
+    assert_eq!(rt; address(&plan, 0, 2, 4)?, Some(0x1000_002C));
     let code = Target::Code {
         section: 0,
         offset: 4,
     };
     assert_eq!(rt; plan.address(code), None);
     assert_eq!(rt; plan.address(Target::Number(7)), Some(7));
-    let base = Target::TocBase {
-        file: 2,
-        addend: -8,
-    };
-    assert_eq!(rt; plan.address(base), Some(0x1000_80F8));
+    assert_eq!(rt; base(&plan, 2, -8)?, (Some(0x1000_80F8), 0x1000_8100));
     assert_eq!(rt;
         plan.address(Target::WeakNone(-1)),
         Some(0xFFFF_FFFF_FFFF_FFFF)
     );
-    assert_eq!(rt; (plan.group_of(2), plan.base_of(2)), (1, 0x1000_8100));
     Ok(())
 }
