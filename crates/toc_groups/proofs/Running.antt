@@ -129,17 +129,17 @@ module _ (files : List (List ℕ)) (span : ℕ) where
       (sym (ap past_limit here) ∙ past))
 
   -- the runs of sections
-  pub runs_are : (starts : Vec ℕ Global) (read_only start groups zeros zeros_end : ℕ) → set_refusal files ≡ None →
+  pub runs_are : (starts : Vec ℕ Global) (read_only start groups zeroed_runs zeros_end : ℕ) → set_refusal files ≡ None →
       AreGroupStarts files span starts.items → read_only ≡ read_only_end files → start ≡ writable_start files →
-      groups ≡ groups_end files span → zeros ≡ writable_end files span → zeros_end ≡ zeroed_end files span → zeros_end ≤ DATA_END →
+      groups ≡ groups_end files span → zeroed_runs ≡ writable_end files span → zeros_end ≡ zeroed_end files span → zeros_end ≤ DATA_END →
       AreRuns files span (record {
         starts = starts;
-        first = record { read_only = IMAGE_START; toc = 0; writable = groups; zeroed = zeros };
+        first = record { read_only = IMAGE_START; toc = 0; writable = groups; zeroed = zeroed_runs };
         read_only = read_only;
         writable_start = start;
         zeroed = zeros_end;
       })
-  runs_are starts read_only start groups zeros zeros_end whole starts_are_there read_only_is start_at groups_at zeroed_start_at zeroed_at low =
+  runs_are starts read_only start groups zeroed_runs zeros_end whole starts_are_there read_only_is start_at groups_at zeroed_start_at zeroed_at low =
       let order = in_order whole in
       record {
         starts = starts_are_there;

@@ -2,7 +2,6 @@
 ghost use Rattle.std.specs.Prelude.{◌≡◌, ◌<◌, ◌≤◌, ◌^◌, ℕ, None, Some, IfOk, IsTrue, length, map, slice_get, slice_index};
 ghost use Rattle.std.specs.Int.{cast_unsigned, w64};
 ghost use Rattle.object_set.specs.Refusals.{Answers};
-ghost use Rattle.symbol_table.specs.declared.target.Piece.TheVariants.{Section};
 ghost use Rattle.symbol_table.specs.Targets.{plus_addend};
 ghost use Rattle.toc_groups.specs.Groups.{IsTocSpan};
 ghost use Rattle.toc_groups.specs.Data.{data_refusal};
@@ -159,19 +158,6 @@ impl DataPlan {
     {
         (file as usize) < self.groups.numbers.len()
             && u64::from(symbol) < self.groups.rows[file as usize].count()
-    }
-
-    /// Whether the address of a section may be asked for.
-    pub fn has_section(&self, file: u32, section: u32) -> bool
-        ensures { IsTrue result → IsLaidPiece self.now (Section file section) }
-    {
-        if file as usize >= self.pieces.addresses.firsts.len() {
-            return false;
-        }
-        match self.pieces.addresses.firsts[file as usize].checked_add(u64::from(section)) {
-            Some(index) => index < self.pieces.commons,
-            None => false,
-        }
     }
 
     /// Whether the base of a file may be asked for.

@@ -169,7 +169,7 @@ fn file_bytes(alloc: Global, file: &File, zeros: &[u8]) -> Result<Vec<u8>, Fail>
 
 /// The plan of files with a TOC span, or why there is none.
 pub fn laid(alloc: Global, files: &[File], span: u32) -> Result<Result<DataPlan, Refusal>, Fail> {
-    if span % 8 != 0 || span < 16 || span > 0x1_0000 || files.len() > 100 {
+    if span % 8 != 0 || span < 16 || span > 0x1_0000 {
         return Err(Fail::new("no TOC span"));
     }
     let zeros = vec![in alloc; 0u8; MOST]?;
@@ -180,7 +180,11 @@ pub fn laid(alloc: Global, files: &[File], span: u32) -> Result<Result<DataPlan,
             bytes: file_bytes(alloc, file, &zeros)?,
         })?;
     }
-    let Ok(set) = ObjectSet::take(alloc, &list) else {
+    let list = list.as_slice();
+    if list.len() > 4096 {
+        return Err(Fail::new("too many files"));
+    }
+    let Ok(set) = ObjectSet::take(alloc, list) else {
         return Err(Fail::new("a file is refused"));
     };
     let Ok(resolved) = resolve(alloc, &set, b"_start") else {

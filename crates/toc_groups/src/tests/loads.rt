@@ -4,7 +4,7 @@ use super::files::Room::Toc;
 use super::files::{File, plan};
 use crate::DataPlan;
 use std::test::Fail;
-use symbol_table::{Piece, Target};
+use symbol_table::Target;
 
 /// Two files of one group, the second of which shares the slots of two names; a third one that begins the next group.
 const FILES: [File; 3] = [
@@ -31,18 +31,6 @@ fn slot(plan: &DataPlan, file: u32, symbol: u32) -> Result<Option<u64>, Fail> {
         Ok(plan.slot(file, symbol))
     } else {
         Err(Fail::new("no such symbol"))
-    }
-}
-
-/// The address of an offset in a section of a file, which has one with this number.
-fn address(plan: &DataPlan, file: u32, section: u32, addend: i64) -> Result<Option<u64>, Fail> {
-    if plan.has_section(file, section) {
-        Ok(plan.address(Target::Data {
-            piece: Piece::Section(file, section),
-            addend,
-        }))
-    } else {
-        Err(Fail::new("no such section"))
     }
 }
 
@@ -85,7 +73,6 @@ fn a_name_has_one_slot_in_a_group(rt: HostRuntime) -> Result<(), Fail> {
 #[test]
 fn targets_have_addresses_but_for_those_in_text(rt: HostRuntime) -> Result<(), Fail> {
     let plan = plan(rt.alloc(), &FILES, 48)?;
-    assert_eq!(rt; address(&plan, 0, 2, 4)?, Some(0x1000_002C));
     let code = Target::Code {
         section: 0,
         offset: 4,
