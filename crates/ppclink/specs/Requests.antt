@@ -1,5 +1,5 @@
 -- What the words of a command ask for.
-use Rattle.std.specs.Prelude.{ℕ, Bool, nat_le, false, ◌%◌, ◌==◌, ◌&&◌, not, List, [], ◌∷◌, map, length, codes, Option, Some, None, if◌then◌else◌, String, string_bytes, Vec}
+use Rattle.std.specs.Prelude.{ℕ, Bool, nat_le, false, ◌==◌, ◌&&◌, not, List, [], ◌∷◌, map, length, codes, Option, Some, None, if◌then◌else◌, String, string_bytes, Vec}
 use Rattle.std.specs.List.{list_all}
 use Rattle.std.specs.Str.{bytes_eq}
 use Rattle.std.specs.declared.alloc.Global.{Global}
@@ -35,58 +35,30 @@ usual_entry = codes "_start"
 abbrev pub are_files : List (List ℕ) → Bool
 are_files files = nat_le 1 (length files) && nat_le (length files) 4096 && list_all is_file_name files
 
--- a number of those that are allowed
-abbrev pub allowed : (ℕ → Bool) → Option ℕ → Option ℕ
-allowed passes None = None
-allowed passes (Some n) = if passes n then Some n else None
+-- the options of a link that names no spans
+abbrev pub usual_options : List ℕ → LinkOptions
+usual_options entry = record { entry = entry; branch_span = BRANCH_SPAN; toc_span = TOC_SPAN }
 
--- a branch span is a multiple of 4 from 0x100 on
-abbrev pub is_branch_span : ℕ → Bool
-is_branch_span n = n % 4 == 0 && nat_le 0x100 n && nat_le n BRANCH_SPAN
-
--- a TOC span is a multiple of 8 from 16 on
-abbrev pub is_toc_span : ℕ → Bool
-is_toc_span n = n % 8 == 0 && nat_le 16 n && nat_le n TOC_SPAN
-
--- the spans that words write; None where they write none that is allowed
-abbrev pub branch_span_of : List ℕ → Option ℕ
-branch_span_of word = allowed is_branch_span (number_of word)
-
-abbrev pub toc_span_of : List ℕ → Option ℕ
-toc_span_of word = allowed is_toc_span (number_of word)
-
--- the files of a link, behind its options; None stands for a number that isn't allowed
-unfoldable pub link_from : List ℕ → List ℕ → Option ℕ → Option ℕ → List (List ℕ) → Option Request
-link_from out entry (Some branch) (Some toc) files =
-    if are_files files then Some (link_to out (record { entry = entry; branch_span = branch; toc_span = toc }) files) else None
-link_from out entry branch toc files = None
-
--- [--toc-span N] FILE...
-unfoldable pub link_with_toc : List ℕ → List ℕ → Option ℕ → List (List ℕ) → Option Request
-link_with_toc out entry branch (option ∷ number ∷ files) =
-    if bytes_eq option (codes "--toc-span") then link_from out entry branch (toc_span_of number) files
-    else link_from out entry branch (Some TOC_SPAN) (option ∷ number ∷ files)
-link_with_toc out entry branch files = link_from out entry branch (Some TOC_SPAN) files
-
--- [--branch-span N] [--toc-span N] FILE...
-unfoldable pub link_with_branch : List ℕ → List ℕ → List (List ℕ) → Option Request
-link_with_branch out entry (option ∷ number ∷ words) =
-    if bytes_eq option (codes "--branch-span") then link_with_toc out entry (branch_span_of number) words
-    else link_with_toc out entry (Some BRANCH_SPAN) (option ∷ number ∷ words)
-link_with_branch out entry words = link_with_toc out entry (Some BRANCH_SPAN) words
+-- the files of a link, behind its options
+abbrev pub link_from : List ℕ → LinkOptions → List (List ℕ) → Option Request
+link_from out options files = if are_files files then Some (link_to out options files) else None
 
 -- an entry that was named; the name isn't empty
 abbrev pub link_named : List ℕ → List ℕ → List (List ℕ) → Option Request
-link_named out [] words = None
-link_named out (c ∷ entry) words = link_with_branch out (c ∷ entry) words
+link_named out [] files = None
+link_named out (c ∷ entry) files = link_from out (usual_options (c ∷ entry)) files
 
--- [-e NAME] [--branch-span N] [--toc-span N] FILE...
+-- the usual entry
+abbrev pub link_usual : List ℕ → List (List ℕ) → Option Request
+link_usual out files = link_from out (usual_options usual_entry) files
+
+-- [-e NAME] FILE...
 abbrev pub link_with_entry : List ℕ → List (List ℕ) → Option Request
-link_with_entry out (option ∷ entry ∷ words) =
-    if bytes_eq option (codes "-e") then link_named out entry words else link_with_branch out usual_entry (option ∷ entry ∷ words)
-link_with_entry out words = link_with_branch out usual_entry words
+link_with_entry out (option ∷ entry ∷ files) =
+    if bytes_eq option (codes "-e") then link_named out entry files else link_usual out (option ∷ entry ∷ files)
+link_with_entry out files = link_usual out files
 
--- link -o OUT [-e NAME] [--branch-span N] [--toc-span N] FILE...
+-- link -o OUT [-e NAME] FILE...
 abbrev pub link_request : List (List ℕ) → Option Request
 link_request (option ∷ out ∷ words) = if bytes_eq option (codes "-o") && is_file_name out then link_with_entry out words else None
 link_request words = None

@@ -2,11 +2,10 @@
 ghost use Rattle.std.specs.Prelude.{◌≡◌, IfSome, string_bytes};
 ghost use Rattle.std.specs.List.{list_all};
 ghost use Rattle.std.specs.Option.{option_map};
-ghost use Rattle.ppclink.specs.Requests.{request_of, link_request, link_with_entry, link_with_branch, link_with_toc, link_from, branch_span_of, toc_span_of, is_branch_span, is_toc_span, are_files, show_request, run_request, run_with_input, run_from, texts, is_file_name};
-ghost use Rattle.ppclink.specs.inside.Commands.{meaning, IsAllowed};
+ghost use Rattle.ppclink.specs.Requests.{request_of, link_request, link_with_entry, link_from, are_files, show_request, run_request, run_with_input, run_from, texts, is_file_name};
+ghost use Rattle.ppclink.specs.inside.Commands.{meaning, link_options, HasFiles};
 
 use crate::numbers::number_of;
-use link_engine::{BRANCH_SPAN, TOC_SPAN};
 
 /// How many steps a run takes at most where the words don't say.
 const USUAL_BUDGET: u32 = 1_000_000;
@@ -22,10 +21,6 @@ const FILE_COUNT_LIMIT: usize = 4096;
 pub struct LinkOptions<'a> {
     /// The name of the symbol where the executable is entered.
     pub entry: &'a str,
-    /// How far a branch reaches, in bytes either way.
-    pub branch_span: u32,
-    /// How large a TOC group may grow, in bytes.
-    pub toc_span: u32,
 }
 
 /// The options of a run.
@@ -88,50 +83,16 @@ fn are_files(words: &[String]) -> bool
     count != 0 && count <= FILE_COUNT_LIMIT && are_file_names(words)
 }
 
-// The branch span that a word writes, if it is one that is allowed.
-fn branch_span_of(word: &str) -> Option<u32>
-    ensures { result ≡ branch_span_of word.now }
-{
-    let span = number_of(word)?;
-    if span % 4 == 0 && 0x100 <= span && span <= BRANCH_SPAN {
-        Some(span)
-    } else {
-        None
-    }
-}
-
-// The TOC span that a word writes, if it is one that is allowed.
-fn toc_span_of(word: &str) -> Option<u32>
-    ensures { result ≡ toc_span_of word.now }
-{
-    let span = number_of(word)?;
-    if span % 8 == 0 && 16 <= span && span <= TOC_SPAN {
-        Some(span)
-    } else {
-        None
-    }
-}
-
 // The words of a link behind its options.
-#[tactic(auto, unfolding(crate::specs::Requests::link_from))]
 fn parse_files<'a>(
     out: &'a str,
-    entry: &'a str,
-    branch: Option<u32>,
-    toc: Option<u32>,
+    options: LinkOptions<'a>,
     words: &'a [String],
 ) -> Option<Command<'a>>
-    requires branch { IfSome branch (λ n. is_branch_span n ≡ true) }
-    requires toc { IfSome toc (λ n. is_toc_span n ≡ true) }
     ensures value { option_map meaning result
-        ≡ link_from out.now entry.now branch toc (texts words.now) }
-    ensures allowed { IfSome result IsAllowed }
+        ≡ link_from out.now (link_options options.entry) (texts words.now) }
+    ensures files { IfSome result HasFiles }
 {
-    let options = LinkOptions {
-        entry,
-        branch_span: branch?,
-        toc_span: toc?,
-    };
     if are_files(words) {
         Some(Command::Link {
             out,
@@ -143,63 +104,28 @@ fn parse_files<'a>(
     }
 }
 
-// The words of a link behind its branch span.
-#[tactic(auto, unfolding(crate::specs::Requests::link_with_toc))]
-fn parse_toc<'a>(
-    out: &'a str,
-    entry: &'a str,
-    branch: Option<u32>,
-    words: &'a [String],
-) -> Option<Command<'a>>
-    requires { IfSome branch (λ n. is_branch_span n ≡ true) }
-    ensures value { option_map meaning result
-        ≡ link_with_toc out.now entry.now branch (texts words.now) }
-    ensures allowed { IfSome result IsAllowed }
-{
-    match words {
-        [option, number, files @ ..] if option.as_str() == "--toc-span" => {
-            parse_files(out, entry, branch, toc_span_of(number.as_str()), files)
-        }
-        _ => parse_files(out, entry, branch, Some(TOC_SPAN), words),
-    }
-}
-
-// The words of a link behind its entry.
-#[tactic(auto, unfolding(crate::specs::Requests::link_with_branch))]
-fn parse_branch<'a>(out: &'a str, entry: &'a str, words: &'a [String]) -> Option<Command<'a>>
-    ensures value { option_map meaning result
-        ≡ link_with_branch out.now entry.now (texts words.now) }
-    ensures allowed { IfSome result IsAllowed }
-{
-    match words {
-        [option, number, rest @ ..] if option.as_str() == "--branch-span" => {
-            parse_toc(out, entry, branch_span_of(number.as_str()), rest)
-        }
-        _ => parse_toc(out, entry, Some(BRANCH_SPAN), words),
-    }
-}
-
 // The words of a link behind the name of the executable.
 fn parse_entry<'a>(out: &'a str, words: &'a [String]) -> Option<Command<'a>>
     ensures value { option_map meaning result ≡ link_with_entry out.now (texts words.now) }
-    ensures allowed { IfSome result IsAllowed }
+    ensures files { IfSome result HasFiles }
 {
     match words {
-        [option, entry, rest @ ..] if option.as_str() == "-e" => {
+        [option, entry, files @ ..] if option.as_str() == "-e" => {
             if entry.is_empty() {
                 None
             } else {
-                parse_branch(out, entry.as_str(), rest)
+                let entry = entry.as_str();
+                parse_files(out, LinkOptions { entry }, files)
             }
         }
-        _ => parse_branch(out, USUAL_ENTRY, words),
+        _ => parse_files(out, LinkOptions { entry: USUAL_ENTRY }, words),
     }
 }
 
 // The words behind `link`.
 fn parse_link(words: &[String]) -> Option<Command<'_>>
     ensures value { option_map meaning result ≡ link_request (texts words.now) }
-    ensures allowed { IfSome result IsAllowed }
+    ensures files { IfSome result HasFiles }
 {
     match words {
         [option, out, rest @ ..] if option.as_str() == "-o" && is_file_name(out.as_str()) => {
@@ -212,7 +138,7 @@ fn parse_link(words: &[String]) -> Option<Command<'_>>
 // The words behind `show`.
 fn parse_show(words: &[String]) -> Option<Command<'_>>
     ensures value { option_map meaning result ≡ show_request (texts words.now) }
-    ensures allowed { IfSome result IsAllowed }
+    ensures files { IfSome result HasFiles }
 {
     match words {
         [file] if is_file_name(file.as_str()) => Some(Command::Show { file }),
@@ -229,7 +155,7 @@ fn parse_image<'a>(
 ) -> Option<Command<'a>>
     ensures value { option_map meaning result
         ≡ run_from budget (option_map (λ i. i.now) input.entry) (texts words.now) }
-    ensures allowed { IfSome result IsAllowed }
+    ensures files { IfSome result HasFiles }
 {
     match words {
         [image] if is_file_name(image.as_str()) => {
@@ -250,7 +176,7 @@ fn parse_image<'a>(
 #[tactic(auto, unfolding(crate::specs::Requests::run_with_input))]
 fn parse_input(budget: Option<u32>, words: &[String]) -> Option<Command<'_>>
     ensures value { option_map meaning result ≡ run_with_input budget (texts words.now) }
-    ensures allowed { IfSome result IsAllowed }
+    ensures files { IfSome result HasFiles }
 {
     match words {
         [option, input, rest @ ..] if option.as_str() == "-i" => {
@@ -267,7 +193,7 @@ fn parse_input(budget: Option<u32>, words: &[String]) -> Option<Command<'_>>
 // The words behind `run`.
 fn parse_run(words: &[String]) -> Option<Command<'_>>
     ensures value { option_map meaning result ≡ run_request (texts words.now) }
-    ensures allowed { IfSome result IsAllowed }
+    ensures files { IfSome result HasFiles }
 {
     match words {
         [option, number, rest @ ..] if option.as_str() == "-n" => {
@@ -280,7 +206,7 @@ fn parse_run(words: &[String]) -> Option<Command<'_>>
 /// Reads the words; None exactly where they aren't of the grammar.
 pub fn parse(words: &[String]) -> Option<Command<'_>>
     ensures value { option_map meaning result ≡ request_of (texts words.now) }
-    ensures allowed { IfSome result IsAllowed }
+    ensures files { IfSome result HasFiles }
 {
     let [command, rest @ ..] = words else {
         return None;

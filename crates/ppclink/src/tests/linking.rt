@@ -12,10 +12,6 @@ link -o x a.o dropped.o             | | 0 |                                     
 link -o x dropped.o dropped.o c.o   | | 0 |                                              | 10000000
 link -o x -e _start a.o             | | 0 |                                              | 10000000
 link -o x -e _start dropped.o a.o   | | 0 |                                              | 10000000
-link -o x --branch-span 0x100 t.o   | | 0 |                                              | 10000000
-link -o x --toc-span 16 t.o         | | 0 |                                              | 10000000
-link -o x -e _start --branch-span 33554432 --toc-span 0x10000 t.o | | 0 |                | 10000000
-link -o x -e --toc-span t.o         | | 1 | ppclink: no entry --toc-span                 |
 link -o x late.o                    | | 0 |                                              | 10000004
 link -o x aligned.o                 | | 0 |                                              | 10000000
 link -o x -e main a.o               | | 1 | ppclink: no entry main                       |
@@ -72,17 +68,6 @@ link -o x -e f                      | | 2 | ppclink: words not understood |
 link -o x -e                        | | 2 | ppclink: words not understood |
 link -e _start -o x t.o             | | 2 | ppclink: words not understood |
 link -o x t.o -e _start             | | 2 | ppclink: words not understood |
-link -o x --branch-span 0x402 t.o   | | 2 | ppclink: words not understood |
-link -o x --branch-span 252 t.o     | | 2 | ppclink: words not understood |
-link -o x --branch-span 0x2000004 t.o | | 2 | ppclink: words not understood |
-link -o x --branch-span t.o         | | 2 | ppclink: words not understood |
-link -o x --toc-span 8 t.o          | | 2 | ppclink: words not understood |
-link -o x --toc-span 20 t.o         | | 2 | ppclink: words not understood |
-link -o x --toc-span 0x10008 t.o    | | 2 | ppclink: words not understood |
-link -o x --toc-span t.o            | | 2 | ppclink: words not understood |
-link -o x --toc-span 16 --branch-span 0x100 t.o | | 2 | ppclink: words not understood |
-link -o x --toc-span 16 --toc-span 16 t.o | | 2 | ppclink: words not understood |
-link -o x --branch-span 0x100 -e _start t.o | | 2 | ppclink: words not understood |
 show                                | | 2 | ppclink: words not understood |
 show t.o t.o                        | | 2 | ppclink: words not understood |
 show -t.o                           | | 2 | ppclink: words not understood |

@@ -11,7 +11,7 @@ use Rattle.ppclink.proofs.perform.link_fetched.Goals as goal
 pub returns-in-Ok-link-clause-causes : goal.returns-in-Ok-link-clause-causes
 returns-in-Ok-link-clause-causes g c =
     write_causes _ _ c.args.out.now _ (link_options c.args.options) c.in-Ok.options (texts c.args.names.now) (contents_of c.args.files.now)
-    c.write_out.result c.in-Ok.ensures c.requires.read
+    c.write_out.result c.in-Ok.ensures.same c.requires.read
     (subst (λ i. LinksTo (contents_of c.args.files.now) c.in-Ok.options (Ok i)) (sym c.as_slice.ensures.value) c.in-Ok-link.ensures.linked)
     c.write_out.ensures
 
@@ -19,7 +19,7 @@ pub returns : goal.returns
 returns g c = record {
   causes =
       refuse_causes _ _ c.args.out.now (link_options c.args.options) c.in-Ok.options (texts c.args.names.now) (contents_of c.args.files.now)
-      c.in-Err.refusal c.refusal_line.result c.text_report.result c.in-Ok.ensures refl c.requires.read c.in-Err.ensures.refused
+      c.in-Err.refusal c.refusal_line.result c.text_report.result c.in-Ok.ensures.same refl c.requires.read c.in-Err.ensures.refused
       c.refusal_line.ensures.line c.refusal_line.ensures.stated c.text_report.ensures;
   steps = c.link.ensures.steps;
 }
