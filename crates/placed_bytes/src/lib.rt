@@ -5,7 +5,7 @@
 mod laws;
 mod patches;
 
-pub use laws::patches_stand;
+pub use laws::{patched_is_one, patches_stand};
 pub use patches::{put_bytes, put_number};
 
 #[cfg(test)]

@@ -1,7 +1,8 @@
 -- Where patches are put at places apart from one another, each stands where it was put, whatever the order, and all else is as it was.
-use Rattle.std.proofs.Common.{ℕ, suc, ◌+◌, ◌≡◌, ◌≤◌, inl, inr, List, [], ◌∷◌, ◌++◌, take, drop, length, ap, ◌∙◌, sym, refl, arith, append_assoc}
+use Rattle.std.proofs.Common.{ℕ, suc, ◌+◌, ◌-◌, ◌≡◌, ◌<◌, ◌≤◌, ◌⊎◌, inl, inr, List, [], ◌∷◌, ◌++◌, take, drop, get_or, length, ap, ◌∙◌, sym, refl, arith, append_assoc}
 use Rattle.std.specs.Prelude.{All, AllPairs}
-use Rattle.std.proofs.lemmas.List.{drop_at, take_at, length-take-le, length-append, length-drop, drop-append-le, take-append-le, take-append-drop}
+use Rattle.std.proofs.lemmas.Bool.{cases_lt}
+use Rattle.std.proofs.lemmas.List.{drop_at, take_at, get_or-take, get_or-drop, ext_get_or, length-take-le, length-append, length-drop, drop-append-le, take-append-le, take-append-drop}
 use Rattle.std.proofs.lemmas.List.Elements.{All-nil, All-cons, All-head, All-tail}
 use Rattle.std.proofs.lemmas.Slice.{drop-append-drop}
 use Rattle.byteorder.specs.Endian.{little_bytes}
@@ -106,3 +107,51 @@ patches_stand b ps placed = record {
 pub with_number-patched : (n : ℕ) (b : List ℕ) (at x : ℕ) → with_number n b at x ≡ patched b (number_patch n at x)
 with_number-patched n b at x =
     ap (λ (m : ℕ). take at b ++ (little_bytes n x ++ drop (at + m) b)) (sym (length-bytes_low_first 0 n x))
+
+-- a place is one of a part's, or beside it
+single : (p : Patch) (place : ℕ) → ((p.at ≤ place) × (place < end_of p)) ⊎ IsBeside place 1 p
+single p place =
+    elim (cases_lt place p.at) [
+      | inl before ↦ inr (inr (omega arith))
+      | inr from ↦ elim (cases_lt place (end_of p)) [
+        | inl below ↦ inl (from, below)
+        | inr behind ↦ inr (inl behind)
+      ]
+    ]
+
+-- two lists agree where a part of both is the same
+in_part : (at n i : ℕ) (a b : List ℕ) → part at n a ≡ part at n b → at ≤ i → i < at + n → get_or a i 0 ≡ get_or b i 0
+in_part at n i a b same from below =
+    let here : i ≡ at + (i - at) = omega arith in
+    let one = get_or-take n (drop at a) (i - at) 0 (omega arith) ∙ get_or-drop at a (i - at) 0 in
+    let other = get_or-take n (drop at b) (i - at) 0 (omega arith) ∙ get_or-drop at b (i - at) 0 in
+    ap (λ k. get_or a k 0) here ∙ (sym one ∙ ap (λ l. get_or l (i - at) 0) same ∙ other) ∙ ap (λ k. get_or b k 0) (sym here)
+
+-- a place is one of a patch's where both lists have its bytes, or beside all
+by_place : (a b : List ℕ) (ps : List Patch) (place : ℕ) →
+    All (λ p. part p.at (length p.bytes) a ≡ p.bytes) ps → All (λ p. part p.at (length p.bytes) b ≡ p.bytes) ps →
+    (get_or a place 0 ≡ get_or b place 0) ⊎ All (IsBeside place 1) ps
+by_place a b [] place one other = inr (All-nil (IsBeside place 1))
+by_place a b (p ∷ ps) place one other =
+    let put : Patch → Type 0 = λ q. part q.at (length q.bytes) a ≡ q.bytes in
+    let put_too : Patch → Type 0 = λ q. part q.at (length q.bytes) b ≡ q.bytes in
+    elim (single p place) [
+      | inl in_p ↦ inl (in_part p.at (length p.bytes) place a b (All-head put p ps one ∙ sym (All-head put_too p ps other)) in_p.0 in_p.1)
+      | inr beside ↦ elim (by_place a b ps place (All-tail put p ps one) (All-tail put_too p ps other)) [
+        | inl same ↦ inl same
+        | inr all ↦ inr (All-cons (IsBeside place 1) p ps beside all)
+      ]
+    ]
+
+same_place : (old a b : List ℕ) (ps : List Patch) (place : ℕ) → IsPatched old ps a → IsPatched old ps b →
+    get_or a place 0 ≡ get_or b place 0
+same_place old a b ps place one other =
+    elim (by_place a b ps place one.put other.put) [
+      | inl same ↦ same
+      | inr beside ↦ in_part place 1 place a b (one.kept place 1 beside ∙ sym (other.kept place 1 beside)) (omega arith) (omega arith)
+    ]
+
+-- two lists that are one list with the same patches are equal
+pub one_patched : (old a b : List ℕ) (ps : List Patch) → IsPatched old ps a → IsPatched old ps b → a ≡ b
+one_patched old a b ps one other =
+    ext_get_or 0 a b (one.size ∙ sym other.size) (λ i within. same_place old a b ps i one other)
