@@ -1,5 +1,5 @@
 -- The records of a file, and their fields.
-use Rattle.std.proofs.Common.{◌≡◌, ◌<◌, ◌≤◌, ℕ, zero, suc, Bool, ◌&&◌, ◌||◌, IfSome, sym, ap, ◌∙◌, List, [], ◌∷◌, Option, None, Some, length, refl, arith, subst}
+use Rattle.std.proofs.Common.{◌≡◌, ◌<◌, ◌≤◌, ℕ, zero, suc, Bool, true, false, cond, ◌&&◌, ◌||◌, IfSome, sym, ap, ◌∙◌, List, [], ◌∷◌, Option, None, Some, length, refl, arith, subst}
 use Rattle.std.specs.List.{All, slice_index_or, list_any, filter}
 use Rattle.std.specs.List.Sorted.{IsPermutation}
 use Rattle.std.proofs.lemmas.List.Elements.{All-append, All-map, All-filter}
@@ -112,7 +112,22 @@ pub items_narrow : (files : List (List ℕ)) (file : ℕ) (items xs : List Recor
 items_narrow files file items xs are is =
     subst (All (λ (f : RecordField). f.width ≤ 8)) (sym is) (λ k d within. (items_are files file items are k d within).width_most)
 
+-- a test is passed among what it keeps exactly if it is passed
+kept_case : {X : Type 0} (p : X → Bool) (x : X) (xs : List X) (b : Bool) → p x ≡ b → list_any p (filter p xs) ≡ list_any p xs →
+    list_any p (cond b (x ∷ filter p xs) (filter p xs)) ≡ (b || list_any p xs)
+kept_case p x xs true test rest = ap (λ (b : Bool). b || list_any p (filter p xs)) test
+kept_case p x xs false test rest = rest
+
+any_kept : {X : Type 0} (p : X → Bool) (xs : List X) → list_any p (filter p xs) ≡ list_any p xs
+any_kept p [] = refl
+any_kept p (x ∷ xs) = kept_case p x xs (p x) refl (any_kept p xs)
+
 module _ (p : RecordField → Bool) (fields items window : List RecordField) (holds : filter p window ≡ filter p items) where
+  -- a window tells whether one of the fields in another order passes
+  pub any_found : IsPermutation fields items → list_any p window ≡ list_any p fields
+  any_found same =
+      sym (any_kept p window) ∙ ap (list_any p) holds ∙ any_kept p items ∙ sym (list_any-IsPermutation p fields items same)
+
   -- the two of a window are those of the fields in another order
   pub two_of : (pair : Option (RecordField × RecordField)) → IsPermutation fields items → AreTwo (filter p window) pair →
       AreOnlyTwo (filter p fields) pair

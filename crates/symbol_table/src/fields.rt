@@ -7,7 +7,7 @@ ghost use Rattle.elf64_records.specs.Records.{record_count};
 ghost use Rattle.object_set.specs.Files.{file_at};
 ghost use Rattle.object_set.specs.Walks.{IsRecord, records_in};
 ghost use Rattle.reloc_fields.specs.Table.{line_of};
-ghost use Rattle.symbol_table.specs.Fields.{kind_numbered, width_in, field_of, fields_meeting, meets, comes_before, overlaps_earlier};
+ghost use Rattle.symbol_table.specs.Fields.{kind_numbered, width_in, field_of, fields_of, fields_meeting, meets, comes_before, overlaps_earlier};
 ghost use Rattle.symbol_table.specs.inside.Places.{rank};
 ghost use Rattle.symbol_table.specs.inside.Fields.{place_of, rank_of, IsFieldOf, AreTwo, AreOnlyTwo};
 
@@ -164,6 +164,13 @@ fn has_earlier(fields: &[RecordField], field: RecordField) -> bool
     fields.iter().any(|f| f.meets(id.section, start, width) && comes_before(f.id, id))
 }
 
+/// Whether one of fields has bytes among so many of a section from an offset on.
+fn any_meets(fields: &[RecordField], section: u32, from: u64, count: u32) -> bool
+    ensures { result ≡ list_any (meets section from count) fields.now }
+{
+    fields.iter().any(|f| f.meets(section, from, count))
+}
+
 /// The fields that have bytes among so many of a section from an offset on, where there are two of them.
 fn only_two(
     fields: &[RecordField],
@@ -280,6 +287,20 @@ impl<'a, 'b> FileFields<'a, 'b> {
         let field = RecordField::of_record(self.set, id);
         let (section, start, width) = (id.section, field.start, field.width);
         has_earlier(window(&self.items, section, start, width), field)
+    }
+
+    /// Whether a field has bytes among so many of a section from an offset on. It looks at the fields that begin near there.
+    pub fn has_any(&self, section: u32, from: u64, count: u32) -> bool
+        requires { from + count < 2 ^ 64 }
+        ensures { let b = file_at self.now.files self.now.file in
+            result ≡ list_any (meets section from count) (fields_of self.now.file b) }
+    {
+        any_meets(
+            window(&self.items, section, from, count),
+            section,
+            from,
+            count,
+        )
     }
 
     /// The two fields that have bytes among so many of a section from an offset on, where there are two.

@@ -20,7 +20,10 @@ mod table;
 mod target;
 mod text;
 
+pub use fields::{FileFields, RecordField};
 pub use laws::{fields_are_apart, records_are_sound};
+pub use places::FilePlace;
+pub use prologue::Prologues;
 pub use resolved::{Resolved, resolve};
 pub use target::{CodePlace, Piece, Target};
 
