@@ -17,7 +17,7 @@ use Rattle.layout_rounds.proofs.Aligned.{power_pos, aligned_most, aligned_least}
 use Rattle.layout_rounds.proofs.Spots.{next_either, group_most, offset_most, group_rises}
 use Rattle.layout_rounds.proofs.Totals.{total, total_grows}
 
-if_same : (a g x : ℕ) → a ≡ g → (if a == g then x else 0) ≡ x
+pub if_same : (a g x : ℕ) → a ≡ g → (if a == g then x else 0) ≡ x
 if_same a g x same = grind (arith, nat_tests)
 
 if_other : (a g x : ℕ) → a ≢ g → (if a == g then x else 0) ≡ 0

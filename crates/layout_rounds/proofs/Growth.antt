@@ -43,7 +43,7 @@ module _ (t : KeyedText) (keyed : IsKeyed t) where
   padded_grows : (m n : ℕ) → m ≤ n → padded t m ≤ padded t n
   padded_grows m n le = aligned_grows m n (unit t) (unit_some t keyed) le
 
-  section_within : (s n : ℕ) → s < n → offset_at t s + section_size t s ≤ size_upto t (group_at t s) n
+  pub section_within : (s n : ℕ) → s < n → offset_at t s + section_size t s ≤ size_upto t (group_at t s) n
   section_within s zero lt = absurd (omega (arith, lt))
   section_within s (suc n) lt = elim (below_or_last s n lt) [
     | inl below ↦ let ih = section_within s n below in omega (arith, ih)

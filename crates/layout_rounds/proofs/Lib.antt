@@ -18,3 +18,6 @@ pub mod RoundSteps
 pub mod FarLayouts
 pub mod StubsOut
 pub mod FarSetExists
+pub mod Multiples
+pub mod Lying
+pub mod Branching

@@ -34,7 +34,7 @@ spot_begins reach last before section at is apart =
     ap (λ (b : Bool). (if b then record { group = last.group; offset = there }
     else record { group = last.group + 1; offset = 0 })) (sym test)
 
-one_of : (b : Bool) (x y : Spot) → ((if b then x else y) ≡ x) ⊎ ((if b then x else y) ≡ y)
+pub one_of : (b : Bool) (x y : Spot) → ((if b then x else y) ≡ x) ⊎ ((if b then x else y) ≡ y)
 one_of true x y = inl refl
 one_of false x y = inr refl
 

@@ -4,3 +4,4 @@ pub mod FarSets
 pub mod inside
 pub mod Reach
 pub mod Settled
+pub mod Lying
