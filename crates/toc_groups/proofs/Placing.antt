@@ -39,7 +39,7 @@ use Rattle.toc_groups.proofs.Laying.{Begins, behind_least, low_begins, number_be
 -- ---- groups of files
 
 module _ (files : List (List ℕ)) (span : ℕ) where
-  number_rises : (file d : ℕ) → group_number files span file ≤ group_number files span (file + d)
+  pub number_rises : (file d : ℕ) → group_number files span file ≤ group_number files span (file + d)
   number_rises file zero =
       let e : file + 0 ≡ file = omega arith in
       omega (arith, ap (group_number files span) e)
@@ -72,7 +72,7 @@ module _ (files : List (List ℕ)) (span : ℕ) where
       joined_case last n (last.count == 0 || nat_le (group_size files last.first (suc last.count)) span) same
 
   -- files of one number have one first file, and later ones count more
-  same_group : (file d : ℕ) → group_number files span (file + d) ≡ group_number files span file →
+  pub same_group : (file d : ℕ) → group_number files span (file + d) ≡ group_number files span file →
       ((group_with files span (file + d)).first ≡ (group_with files span file).first)
       × ((group_with files span (file + d)).count ≡ (group_with files span file).count + d)
   same_group file zero same =
@@ -134,7 +134,7 @@ module _ (files : List (List ℕ)) (span : ℕ) where
 
   -- ---- groups in their run
 
-  fit_group : (g : ℕ) → IsFitExtent (group_extent files span g)
+  pub fit_group : (g : ℕ) → IsFitExtent (group_extent files span g)
   fit_group g = record { power = (8, refl); most = omega arith }
 
   all_fit : (f : ℕ → Extent) (first n : ℕ) → ((g : ℕ) → IsFitExtent (f g)) → AllByRecursion IsFitExtent (map f (range_with_len first n))
@@ -198,12 +198,12 @@ module _ (files : List (List ℕ)) (span : ℕ) where
       ∙ sym (ap (λ (u : Bool). run_end end (if u then piece ∷ [] else [])) test) ∙ sym split
 
   -- the parts of a file's group that come before its own sections
-  abbrev slots_there : ℕ → ℕ
+  abbrev pub slots_there : ℕ → ℕ
   slots_there file =
       let whole = group_at files span (group_number files span file) in
       slot_bytes files whole.first whole.count
 
-  abbrev tocs_there : ℕ → List Extent
+  abbrev pub tocs_there : ℕ → List Extent
   tocs_there file = tocs_of files (group_with files span file).first ((group_with files span file).count - 1)
 
   -- one end more
@@ -285,7 +285,7 @@ module _ (files : List (List ℕ)) (span : ℕ) where
       record { fit = fit; low = omega (arith, behind_least end piece fit, now, all, low); room = omega (arith, now, all, low) }
 
   -- the `.toc` sections before a section of a file are among those of its group
-  tocs_begin : (file i : ℕ) → file < length files → i ≤ e_shnum (file_at files file) →
+  pub tocs_begin : (file i : ℕ) → file < length files → i ≤ e_shnum (file_at files file) →
       Begins (tocs_there file ++ items_in (sort_walk Toc) file (file_at files file) i)
       (tocs_of files (group_with files span file).first (group_with files span file).count)
   tocs_begin file i within few =
@@ -304,7 +304,7 @@ module _ (files : List (List ℕ)) (span : ℕ) where
             ∙ sym (append_assoc (tocs_there file) (items_in (sort_walk Toc) file b i) here.rest);
       }
 
-  tocs_more : (first n m : ℕ) → Begins (tocs_of files first n) (tocs_of files first (n + m))
+  pub tocs_more : (first n m : ℕ) → Begins (tocs_of files first n) (tocs_of files first (n + m))
   tocs_more first n zero =
       let e : n ≡ n + 0 = omega arith in
       record { rest = []; is = ap (tocs_of files first) (sym e) ∙ sym (append-nil (tocs_of files first n)) }
@@ -325,6 +325,21 @@ module _ (files : List (List ℕ)) (span : ℕ) where
     is = second.is ∙ ap (λ (l : List Extent). l ++ second.rest) first.is ∙ append_assoc xs first.rest second.rest;
   }
 
+  -- and among those of all its files
+  pub toc_begins : (file i : ℕ) → file < length files → i ≤ e_shnum (file_at files file) →
+      Begins (tocs_there file ++ items_in (sort_walk Toc) file (file_at files file) i)
+      (tocs_of files (group_at files span (group_number files span file)).first (group_at files span (group_number files span file)).count)
+  toc_begins file i within few =
+      let now = group_with files span file in
+      let all = group_at files span (group_number files span file) in
+      let group_is = whole_of file within in
+      let tocs : tocs_of files all.first all.count ≡ tocs_of files now.first (now.count + group_is.more) =
+      ap (λ (f : ℕ). tocs_of files f all.count) group_is.first ∙ ap (tocs_of files now.first) group_is.count in
+      subst (Begins (tocs_there file ++ items_in (sort_walk Toc) file (file_at files file) i)) (sym tocs)
+      (begins_both (tocs_there file ++ items_in (sort_walk Toc) file (file_at files file) i) (tocs_of files now.first now.count)
+      (tocs_of files now.first (now.count + group_is.more)) (tocs_begin file i within few)
+      (tocs_more now.first now.count group_is.more))
+
   toc_room : (end file i : ℕ) → set_refusal files ≡ None → file < length files → i < e_shnum (file_at files file) →
       sort_of (file_at files file) i ≡ Toc → end ≡ toc_before files span file i → groups_end files span ≤ DATA_END →
       HasRoomAt end (section_extent (file_at files file) i)
@@ -335,20 +350,12 @@ module _ (files : List (List ℕ)) (span : ℕ) where
       let g = group_number files span file in
       let all = group_at files span g in
       let group_is = whole_of file within in
-      let tocs : tocs_of files all.first all.count ≡ tocs_of files (group_with files span file).first ((group_with files span file).count + group_is.more) =
-      ap (λ (f : ℕ). tocs_of files f all.count) group_is.first ∙ ap (tocs_of files (group_with files span file).first) group_is.count in
-      let begins = begins_both (tocs_there file ++ items_in (sort_walk Toc) file (file_at files file) (suc i))
-      (tocs_of files (group_with files span file).first (group_with files span file).count)
-      (tocs_of files (group_with files span file).first ((group_with files span file).count + group_is.more))
-      (tocs_begin file (suc i) within (omega (arith, inside)))
-      (tocs_more (group_with files span file).first (group_with files span file).count group_is.more) in
       let end_there = group_end files span (suc file) in
       let inside_all : all.first + all.count ≤ length files = omega (arith, group_is.first, group_is.count, group_is.last, end_there) in
       let fits = all_weaker IsSmallToc IsFitExtent fit_toc (tocs_of files all.first all.count)
       (tocs_of_files files all.first all.count whole inside_all).0 in
       let most = low_begins (slots_there file) (tocs_there file ++ items_in (sort_walk Toc) file (file_at files file) (suc i))
-      (tocs_of files all.first all.count)
-      (subst (Begins (tocs_there file ++ items_in (sort_walk Toc) file (file_at files file) (suc i))) (sym tocs) begins) fits in
+      (tocs_of files all.first all.count) (toc_begins file (suc i) within (omega (arith, inside))) fits in
       let size = group_low g (number_below file within) low in
       record { fit = fit; low = omega (arith, behind_least end piece fit, now, most, size); room = omega (arith, now, most, size) }
 

@@ -8,17 +8,21 @@ use Rattle.std.proofs.lemmas.List.FromFn.{get_or-map-range_with_len, length-map-
 use Rattle.ppc_bytes.specs.Bytes.{IsAlignedUp}
 use Rattle.elf64_exec.specs.declared.memory_map.TheConstants.{PAGE}
 use Rattle.elf64_records.specs.Symbols.{symbol_count}
+use Rattle.object_set.specs.declared.places.SymbolId.{SymbolId}
 use Rattle.object_set.specs.Files.{file_at}
 use Rattle.object_set.specs.Refusals.{set_refusal}
 use Rattle.layout_rounds.specs.Shapes.{aligned}
 use Rattle.layout_rounds.proofs.Aligned.{aligned_is}
 use Rattle.toc_groups.specs.declared.extents.TheConstants.{DATA_END}
+use Rattle.toc_groups.specs.declared.groups.TocGroup.{TocGroup}
 use Rattle.toc_groups.specs.declared.groups.TocGroups.{TocGroups}
 use Rattle.toc_groups.specs.declared.pieces.LaidPieces.{LaidPieces}
 use Rattle.toc_groups.specs.Slots.{symbol_id, shares_slot, slots_of, names_symbol}
 use Rattle.toc_groups.specs.Groups.{Group, group_with, group_number, group_count, group_at}
-use Rattle.toc_groups.specs.Data.{writable_start, groups_end, commons_end, group_start, base_of, data_end, text_start, slot_number, slot_row}
-use Rattle.toc_groups.specs.Plans.{IsPlan}
+use Rattle.toc_groups.specs.declared.pieces.DataEnds.{DataEnds}
+use Rattle.toc_groups.specs.Data.{read_only_end, writable_start, groups_end, writable_end, commons_end, group_start, group_slots, base_of, data_end, text_start, slot_number, slot_row, data_refusal}
+use Rattle.toc_groups.specs.Plans.{IsPlan, data_ends}
+use Rattle.toc_groups.specs.inside.Named.{slots_in}
 use Rattle.toc_groups.specs.inside.Laid.{AreGroupStarts, AreLaid, data_end_in, base_at}
 use Rattle.toc_groups.specs.inside.Open.{IsNumbered, AreGroups}
 use Rattle.toc_groups.specs.inside.Plans.{IsSafe}
@@ -192,6 +196,33 @@ module _ (files : List (List ℕ)) (span : ℕ) where
         ];
   }
 
+  -- the symbols of the slots of each group
+  named_from : (groups : List TocGroup) (f : ℕ → List SymbolId) (first n : ℕ) → length groups ≡ n →
+      ((i : ℕ) (g : TocGroup) → slice_get groups i ≡ Some g → slots_in g ≡ f (first + i)) → map slots_in groups ≡ map f (range_with_len first n)
+  named_from [] f first zero long each = refl
+  named_from [] f first (suc n) long each = absurd (omega (arith, long))
+  named_from (g ∷ groups) f first zero long each = absurd (omega (arith, long))
+  named_from (g ∷ groups) f first (suc n) long each =
+      let here : slots_in g ≡ f first = each 0 g refl ∙ ap f (let e : first + 0 ≡ first = omega arith in e) in
+      let rest = named_from groups f (first + 1) n (omega (arith, long))
+      (λ i x found. each (suc i) x found ∙ ap f (let e : first + suc i ≡ first + 1 + i = omega arith in e)) in
+      ap (λ (x : List SymbolId). x ∷ map slots_in groups) here ∙ ap (λ (l : List (List SymbolId)). f first ∷ l) rest
+
+  pub named_are : (laid : TocGroups) → AreGroups files span laid →
+      map slots_in laid.groups.items ≡ map (group_slots files span) (range_with_len 0 (group_count files span))
+  named_are laid are =
+      named_from laid.groups.items (group_slots files span) 0 (group_count files span) are.count
+      (λ i g found. (are.each i g found).slots ∙ ap (group_slots files span) (let e : i ≡ 0 + i = omega arith in e))
+
+  -- where the runs of data begin and end
+  ends_are : (laid : LaidPieces) → AreLaid files span laid → laid.ends ≡ data_ends files span
+  ends_are laid are =
+      let made : ℕ → ℕ → ℕ → ℕ → DataEnds = λ a b c d. record { read_only = a; writable_start = b; writable = c; commons = d } in
+      ap (λ (x : ℕ). made x laid.ends.writable_start laid.ends.writable laid.ends.commons) are.read_only
+      ∙ ap (λ (x : ℕ). made (read_only_end files) x laid.ends.writable laid.ends.commons) are.writable_start_is
+      ∙ ap (λ (x : ℕ). made (read_only_end files) (writable_start files) x laid.ends.commons) are.writable
+      ∙ ap (made (read_only_end files) (writable_start files) (writable_end files span)) are.commons_end_is
+
   -- where text starts
   pub text_is : (laid : LaidPieces) (end start : ℕ) → AreLaid files span laid → end ≡ data_end_in laid.ends → IsAlignedUp end PAGE start →
       start ≡ text_start files span
@@ -206,23 +237,30 @@ module _ (files : List (List ℕ)) (span : ℕ) where
   -- the plan of the files
   pub is_plan : (laid : TocGroups) (pieces : LaidPieces) (bases : List ℕ) (end start : ℕ) → AreGroups files span laid →
       AreLaid files span pieces → bases ≡ map (base_at pieces.starts.items) laid.numbers.items → end ≡ data_end_in pieces.ends →
-      IsAlignedUp end PAGE start → IsPlan files span (record {
+      IsAlignedUp end PAGE start → data_refusal files span ≡ None → IsPlan files span (record {
+        span = laid.span;
         groups = laid.numbers.items;
         bases = bases;
         pieces = pieces.addresses.pieces.items;
         firsts = pieces.addresses.firsts.items;
         commons = pieces.commons;
         starts = pieces.starts.items;
+        named = map slots_in laid.groups.items;
         slots = laid.rows.items;
+        ends = pieces.ends;
         text_start = start;
       })
-  is_plan laid pieces bases end start groups are bases_is end_is up = record {
+  is_plan laid pieces bases end start groups are bases_is end_is up fits = record {
+    span_is = groups.span_is;
     groups = groups.numbers_are;
     bases = bases_are laid pieces.starts.items bases groups are.starts bases_is;
     pieces = are.pieces;
     firsts = are.firsts;
     commons = are.commons;
     starts = are.starts;
+    named = named_are laid groups;
     slots = rows_are laid groups;
+    ends = ends_are pieces are;
     text_start = text_is pieces end start are end_is up;
+    fits = fits;
   }

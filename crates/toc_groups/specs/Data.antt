@@ -11,6 +11,7 @@ use Rattle.elf64_exec.specs.declared.memory_map.TheConstants.{IMAGE_START, PAGE}
 use Rattle.layout_rounds.specs.Shapes.{aligned}
 use Rattle.object_set.specs.declared.refusal.Refusal.{Refusal}
 use Rattle.object_set.specs.declared.refusal.Refusal.TheVariants.{DataTooBig}
+use Rattle.object_set.specs.declared.places.SymbolId.{SymbolId}
 use Rattle.object_set.specs.declared.sort.Sort.{Sort}
 use Rattle.object_set.specs.declared.sort.Sort.TheVariants.{Text, Zeroed, Toc, Writable, ReadOnly, Dropped}
 use Rattle.object_set.specs.Files.{file_at}
@@ -58,6 +59,10 @@ module _ (files : List (List ℕ)) (span : ℕ) where
   -- text begins at the next page
   abbrev pub text_start : ℕ
   text_start = aligned data_end PAGE
+
+  -- the symbols for which the slots of group g were made
+  abbrev pub group_slots : ℕ → List SymbolId
+  group_slots g = slots_of files (group_at files span g).first (group_at files span g).count
 
   -- where group g begins
   abbrev pub group_start : ℕ → ℕ

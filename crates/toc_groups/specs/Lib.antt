@@ -3,5 +3,8 @@ pub mod Sections
 pub mod Slots
 pub mod Groups
 pub mod Data
+pub mod Parts
 pub mod Plans
+pub mod Values
+pub mod Contents
 pub mod inside

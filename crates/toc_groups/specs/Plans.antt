@@ -3,6 +3,7 @@ use Rattle.std.specs.Prelude.{◌≡◌, ℕ, ◌+◌, ◌*◌, ◌<◌, List, [
 use Rattle.std.specs.List.{slice_index_or, range_with_len}
 use Rattle.std.specs.Option.{option_map}
 use Rattle.object_set.specs.Walks.{section_walk, index_of, all_items}
+use Rattle.object_set.specs.declared.places.SymbolId.{SymbolId}
 use Rattle.symbol_table.specs.declared.target.Piece.{Piece}
 use Rattle.symbol_table.specs.declared.target.Piece.TheVariants.{Section, Common}
 use Rattle.symbol_table.specs.declared.target.Target.{Target}
@@ -10,30 +11,48 @@ use Rattle.symbol_table.specs.declared.target.Target.TheVariants.{Data, Code, Nu
 use Rattle.symbol_table.specs.Targets.{plus_addend}
 use Rattle.toc_groups.specs.declared.slots.TheConstants.{SLOT_SIZE}
 use Rattle.toc_groups.specs.Groups.{group_number, group_count}
-use Rattle.toc_groups.specs.Data.{group_start, base_of, piece_addresses, slot_row, text_start}
+use Rattle.toc_groups.specs.declared.pieces.DataEnds.{DataEnds}
+use Rattle.toc_groups.specs.Data.{read_only_end, writable_start, writable_end, commons_end, group_start, group_slots, base_of, piece_addresses, slot_row, text_start, data_refusal}
 
--- the TOC group and the TOC base of each file; the addresses of all sections and commons, and how many of them come before the sections
--- of each file and before the commons; where each group starts, and the numbers of the slots of each file's symbols; the start of text
+-- the TOC span for which data is laid out; the TOC group and the TOC base of each file; the addresses of all sections and commons, and how many of them come before the sections
+-- of each file and before the commons; where each group starts, the symbols for which its slots were made, and the numbers of the slots of
+-- each file's symbols; where the runs of data begin and end, and the start of text
 pub record LaidData : Type 0 where
+  pub span : ℕ
   pub groups : List ℕ
   pub bases : List ℕ
   pub pieces : List ℕ
   pub firsts : List ℕ
   pub commons : ℕ
   pub starts : List ℕ
+  pub named : List (List SymbolId)
   pub slots : List (List (Option ℕ))
+  pub ends : DataEnds
   pub text_start : ℕ
 
--- these are the data of files, laid out with a TOC span
+-- where the runs of data begin and end
+abbrev pub data_ends : List (List ℕ) → ℕ → DataEnds
+data_ends files span = record {
+  read_only = read_only_end files;
+  writable_start = writable_start files;
+  writable = writable_end files span;
+  commons = commons_end files span;
+}
+
+-- these are the data of files, laid out with a TOC span, and they aren't too big
 pub record IsPlan (files : List (List ℕ)) (span : ℕ) (plan : LaidData) : Type 0 where
+  pub span_is : plan.span ≡ span
   pub groups : plan.groups ≡ map (group_number files span) (range_with_len 0 (length files))
   pub bases : plan.bases ≡ map (base_of files span) (range_with_len 0 (length files))
   pub pieces : plan.pieces ≡ piece_addresses files span
   pub firsts : plan.firsts ≡ map (λ file. index_of section_walk files file 0) (range_with_len 0 (length files))
   pub commons : plan.commons ≡ length (all_items section_walk files)
   pub starts : plan.starts ≡ map (group_start files span) (range_with_len 0 (group_count files span))
+  pub named : plan.named ≡ map (group_slots files span) (range_with_len 0 (group_count files span))
   pub slots : plan.slots ≡ map (slot_row files span) (range_with_len 0 (length files))
+  pub ends : plan.ends ≡ data_ends files span
   pub text_start : plan.text_start ≡ text_start files span
+  pub fits : data_refusal files span ≡ None
 
 -- which of the addresses is a piece's
 abbrev pub piece_index : LaidData → Piece → ℕ

@@ -4,4 +4,7 @@ pub mod Numbered
 pub mod Ends
 pub mod Open
 pub mod Laid
+pub mod Named
 pub mod Plans
+pub mod Memory
+pub mod Filled

@@ -5,11 +5,13 @@
 
 mod extents;
 mod groups;
+mod laws;
 mod pieces;
 mod plan;
 mod slots;
 mod toc_ends;
 
+pub use laws::parts_are_apart;
 pub use plan::{DataPlan, lay_data};
 
 #[cfg(test)]

@@ -12,7 +12,7 @@ use crate::groups::{TOC_BIAS, TocGroup, TocGroups, toc_groups};
 use crate::pieces::{DataEnds, LaidPieces, SectionAddresses, lay_pieces};
 use crate::slots::{SLOT_SIZE, SlotRow};
 use elf64_exec::PAGE;
-use object_set::Refusal;
+use object_set::{Refusal, SymbolId};
 use ppc_bytes::align_up;
 use std::alloc::{AllocError, Global};
 use std::marker::Model;
@@ -30,17 +30,22 @@ pub struct DataPlan {
 impl Model for DataPlan {
     ghost use Rattle.toc_groups.specs.Plans.{LaidData};
     ghost use Rattle.toc_groups.specs.inside.Plans.{IsSafe};
+    ghost use Rattle.std.specs.Prelude.{map};
+    ghost use Rattle.toc_groups.specs.inside.Named.{slots_in};
 
     ghost Value = { LaidData };
 
     ghost view = { λ p. record {
+      span = p.groups.span;
       groups = p.groups.numbers.items;
       bases = p.bases.items;
       pieces = p.pieces.addresses.pieces.items;
       firsts = p.pieces.addresses.firsts.items;
       commons = p.pieces.commons;
       starts = p.pieces.starts.items;
+      named = map slots_in p.groups.groups.items;
       slots = p.groups.rows.items;
+      ends = p.pieces.ends;
       text_start = p.text_start;
     } };
 
@@ -108,7 +113,7 @@ impl DataPlan {
     }
 
     /// The address of a piece.
-    fn piece_address(&self, piece: Piece) -> u64
+    pub(crate) fn piece_address(&self, piece: Piece) -> u64
         requires { IsLaidPiece self.now piece }
         ensures { result ≡ slice_index self.now.pieces (piece_index self.now piece) }
     {
@@ -139,6 +144,36 @@ impl DataPlan {
             Some(number) => Some(start + SLOT_SIZE * number),
             None => None,
         }
+    }
+
+    /// Where the runs of data begin and end.
+    pub(crate) fn ends(&self) -> DataEnds
+        ensures { result ≡ self.now.ends }
+    {
+        self.pieces.ends
+    }
+
+    /// How many TOC groups there are.
+    pub(crate) fn group_count(&self) -> usize
+        ensures { result ≡ length self.now.named }
+    {
+        self.groups.groups.len()
+    }
+
+    /// The symbols for which the slots of a group were made.
+    pub(crate) fn group_slots(&self, group: usize) -> &[SymbolId]
+        requires { group < length self.now.named }
+        ensures { slice_get self.now.named group ≡ Some result.now }
+    {
+        self.groups.groups[group].slots.as_slice()
+    }
+
+    /// Where a group starts.
+    pub(crate) fn group_start(&self, group: usize) -> u64
+        requires { group < length self.now.starts }
+        ensures { result ≡ slice_index self.now.starts group }
+    {
+        self.pieces.starts[group]
     }
 
     /// Where text starts.

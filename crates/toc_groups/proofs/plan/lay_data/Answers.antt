@@ -1,6 +1,7 @@
 -- bases_of-requires: the group of each file has a start, and starts are low. invariant_of-result and returns-clause-plan: the plan is that
 -- of the files, and can be read.
-use Rattle.std.proofs.Common.{◌≡◌, ◌<◌, ◌≤◌, ℕ, List, map, length, get_or, refl, ap, sym, subst, ◌∙◌, arith}
+use Rattle.toc_groups.specs.Data.{data_refusal}
+use Rattle.std.proofs.Common.{None, ◌≡◌, ◌<◌, ◌≤◌, ℕ, List, map, length, get_or, refl, ap, sym, subst, ◌∙◌, arith}
 use Rattle.object_set.specs.Refusals.{set_refusal}
 use Rattle.toc_groups.specs.inside.Laid.{AreLaid, base_at}
 use Rattle.toc_groups.specs.inside.Open.{AreGroups}
@@ -71,3 +72,4 @@ returns-clause-plan c =
     ∙ ap (map (base_at c.in_ok-pieces.pieces.starts.items)) c.as_slice.ensures.value in
     is_plan files span laid c.in_ok-pieces.pieces c.in_ok-bases.bases.items c.data_end.result c.align_up-text_start.result groups pieces
     bases c.data_end.ensures c.align_up-text_start.ensures
+    (subst (λ (s : ℕ). data_refusal files s ≡ None) groups.span_is c.in_ok-pieces.ensures.refusal)
