@@ -6,6 +6,7 @@
 mod extents;
 mod groups;
 mod laws;
+mod memory;
 mod pieces;
 mod plan;
 mod slots;
