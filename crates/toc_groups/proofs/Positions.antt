@@ -1,5 +1,5 @@
 -- The first place of a list that passes a test.
-use Rattle.std.proofs.Common.{ℕ, suc, ◌≡◌, ◌<◌, ◌≤◌, ◌+◌, inl, inr, Bool, true, false, cond, not, ◌||◌, nat_lt, List, [], ◌∷◌, ◌++◌, length}
+use Rattle.std.proofs.Common.{ℕ, suc, ◌≡◌, ◌<◌, ◌≤◌, ◌+◌, inl, inr, Bool, true, false, cond, not, ◌||◌, nat_lt, List, [], ◌∷◌, ◌++◌, length, get_or}
 use Rattle.std.proofs.Common.{Option, Some, None, position, ap, sym, ◌∙◌, refl, arith, one-add}
 use Rattle.std.specs.Option.{option_map}
 use Rattle.std.specs.List.{list_any, position_or_len}
@@ -17,13 +17,28 @@ module _ {X : Type 0} (p : X → Bool) where
       let test : nat_lt (position_or_len p xs) (length xs) ≡ true = grind (arith, nat_tests, lt) in
       ap (λ (b : Bool). cond b (Some (position_or_len p xs)) None) test
 
-  at_none : (xs : List X) → length xs ≤ position_or_len p xs → position p xs ≡ None
+  pub at_none : (xs : List X) → length xs ≤ position_or_len p xs → position p xs ≡ None
   at_none xs le =
       let test : nat_lt (position_or_len p xs) (length xs) ≡ false = grind (arith, nat_tests, le) in
       ap (λ (b : Bool). cond b (Some (position_or_len p xs)) None) test
 
   len_step : (b : Bool) (x : X) (xs : List X) → p x ≡ b → position_or_len p (x ∷ xs) ≡ cond (not b) (1 + position_or_len p xs) 0
   len_step b x xs is = ap (λ (c : Bool). cond (not c) (1 + position_or_len p xs) 0) is
+
+  found_case : (b : Bool) (x : X) (xs : List X) (d : X) → p x ≡ b → position_or_len p (x ∷ xs) < length (x ∷ xs) →
+      (position_or_len p xs < length xs → p (get_or xs (position_or_len p xs) d) ≡ true) →
+      p (get_or (x ∷ xs) (position_or_len p (x ∷ xs)) d) ≡ true
+  found_case true x xs d is within rest =
+      let now : position_or_len p (x ∷ xs) ≡ 0 = len_step true x xs is in
+      ap (λ (n : ℕ). p (get_or (x ∷ xs) n d)) now ∙ is
+  found_case false x xs d is within rest =
+      let now : position_or_len p (x ∷ xs) ≡ suc (position_or_len p xs) = len_step false x xs is ∙ one-add (position_or_len p xs) in
+      ap (λ (n : ℕ). p (get_or (x ∷ xs) n d)) now ∙ rest (omega (arith, now, within))
+
+  -- what stands at a place that is found passes
+  pub found_passes : (xs : List X) (d : X) → position_or_len p xs < length xs → p (get_or xs (position_or_len p xs) d) ≡ true
+  found_passes [] d within = absurd (omega (arith, within))
+  found_passes (x ∷ xs) d within = found_case (p x) x xs d refl within (λ inside. found_passes xs d inside)
 
   pub position_step : (b : Bool) (x : X) (xs : List X) → p x ≡ b → position p (x ∷ xs) ≡ stepped b (position p xs)
   position_step true x xs is =

@@ -7,6 +7,11 @@ use Rattle.object_set.specs.declared.sort.Sort.{Sort}
 use Rattle.object_set.specs.declared.sort.Sort.TheVariants.{Text, Zeroed, Toc, Writable, ReadOnly, Dropped}
 use Rattle.object_set.specs.Files.{file_at}
 use Rattle.object_set.specs.Sections.{sort_of}
+use Rattle.symbol_table.specs.declared.target.Piece.{Piece}
+use Rattle.symbol_table.specs.declared.target.Piece.TheVariants as piece
+use Rattle.symbol_table.specs.declared.target.Target.{Target}
+use Rattle.symbol_table.specs.declared.target.Target.TheVariants.{Data, Code, Number, TocBase, WeakNone}
+use Rattle.symbol_table.specs.Text.{text_sections}
 use Rattle.toc_groups.specs.declared.slots.TheConstants.{SLOT_SIZE}
 use Rattle.toc_groups.specs.Runs.{no_piece}
 use Rattle.toc_groups.specs.Sections.{commons_of}
@@ -59,3 +64,16 @@ module _ (files : List (List ℕ)) (span : ℕ) where
   pub record Takes (p : Part) (a : ℕ) : Type 0 where
     pub is : IsPart p
     pub covers : Covers (start_of p) (size_of p) a
+
+-- a section or a common of the files
+abbrev pub IsPieceOf : List (List ℕ) → Piece → Type 0
+IsPieceOf files (piece.Section file i) = (file < length files) × (i < e_shnum (file_at files file))
+IsPieceOf files (piece.Common c) = c < length (commons_of files)
+
+-- a target whose piece, file or text section is one of the files'
+abbrev pub IsTargetOf : List (List ℕ) → Target → Type 0
+IsTargetOf files (Data piece addend) = IsPieceOf files piece
+IsTargetOf files (Code section offset) = section < length (text_sections files)
+IsTargetOf files (Number n) = Unit {0}
+IsTargetOf files (TocBase file addend) = file < length files
+IsTargetOf files (WeakNone addend) = Unit {0}

@@ -10,9 +10,12 @@ use Rattle.symbol_table.specs.declared.target.Target.{Target}
 use Rattle.symbol_table.specs.declared.target.Target.TheVariants.{Data, Code, Number, TocBase, WeakNone}
 use Rattle.symbol_table.specs.Targets.{plus_addend}
 use Rattle.toc_groups.specs.declared.slots.TheConstants.{SLOT_SIZE}
+use Rattle.elf64_records.specs.Symbols.{symbol_count}
+use Rattle.object_set.specs.Files.{file_at}
+use Rattle.toc_groups.specs.Parts.{IsPieceOf, IsTargetOf}
 use Rattle.toc_groups.specs.Groups.{group_number, group_count}
 use Rattle.toc_groups.specs.declared.pieces.DataEnds.{DataEnds}
-use Rattle.toc_groups.specs.Data.{read_only_end, writable_start, writable_end, commons_end, group_start, group_slots, base_of, piece_addresses, slot_row, text_start, data_refusal}
+use Rattle.toc_groups.specs.Data.{read_only_end, writable_start, writable_end, commons_end, group_start, group_slots, base_of, piece_addresses, piece_address, target_address, slot_row, slot_address, text_start, data_refusal}
 
 -- the TOC span for which data is laid out; the TOC group and the TOC base of each file; the addresses of all sections and commons, and how many of them come before the sections
 -- of each file and before the commons; where each group starts, the symbols for which its slots were made, and the numbers of the slots of
@@ -93,3 +96,12 @@ pub record IsLaidSymbol (plan : LaidData) (file j : ℕ) : Type 0 where
 abbrev pub slot_in : LaidData → ℕ → ℕ → Option ℕ
 slot_in plan file j =
     option_map (λ k. slice_index plan.starts (slice_index plan.groups file) + SLOT_SIZE * k) (slice_index_or (row_in plan file) j None)
+
+-- what a plan tells of the pieces, targets and symbols of files, whose numbers it knows
+pub record TellsOf (files : List (List ℕ)) (span : ℕ) (plan : LaidData) : Type 0 where
+  pub knows_piece : (piece : Piece) → IsPieceOf files piece → IsLaidPiece plan piece
+  pub knows_target : (target : Target) → IsTargetOf files target → IsLaidTarget plan target
+  pub knows_symbol : (file j : ℕ) → file < length files → j < symbol_count (file_at files file) → IsLaidSymbol plan file j
+  pub pieces : (piece : Piece) → IsPieceOf files piece → slice_index plan.pieces (piece_index plan piece) ≡ piece_address files span piece
+  pub targets : (target : Target) → IsTargetOf files target → address_in plan target ≡ target_address files span target
+  pub slots : (file j : ℕ) → file < length files → j < symbol_count (file_at files file) → slot_in plan file j ≡ slot_address files span file j

@@ -6,5 +6,6 @@ pub mod Open
 pub mod Laid
 pub mod Named
 pub mod Plans
+pub mod Values
 pub mod Memory
 pub mod Filled

@@ -11,8 +11,9 @@ mod pieces;
 mod plan;
 mod slots;
 mod toc_ends;
+mod values;
 
-pub use laws::parts_are_apart;
+pub use laws::{parts_are_apart, plans_are_read};
 pub use plan::{DataPlan, lay_data};
 
 #[cfg(test)]
