@@ -8,6 +8,7 @@ ghost use Rattle.object_set.specs.Walks.{IsRecord};
 ghost use Rattle.reloc_fields.specs.Table.{line_of};
 ghost use Rattle.symbol_table.specs.Fields.{kind_numbered};
 ghost use Rattle.symbol_table.specs.Records.{is_slot_kind, looks_at_symbol};
+ghost use Rattle.symbol_table.specs.laws.Sections.{IsAbout};
 ghost use Rattle.symbol_table.specs.Targets.{target_of};
 ghost use Rattle.toc_groups.specs.Plans.{IsLaidTarget, address_in};
 ghost use Rattle.toc_groups.specs.Values.{code_address, symbol_address, section_place, field_address, source_address, record_value, passes};
@@ -15,6 +16,7 @@ ghost use Rattle.toc_groups.specs.Contents.{AreOfFiles};
 ghost use Rattle.toc_groups.specs.inside.Values.{IsPlacedTarget};
 
 use crate::plan::DataPlan;
+use elf64_records::Rela;
 use layout_rounds::Places;
 use object_set::RecordId;
 use reloc_fields::{Kind, check, value_of};
@@ -85,6 +87,42 @@ fn section_place(
     }
 }
 
+/// What a record says.
+fn record_of(res: &Resolved, id: RecordId) -> Rela
+    requires { IsRecord res.now.files id }
+    ensures offset { let b = file_at res.now.files id.file in
+        result.offset ≡ (rela_of b id.table id.entry).offset }
+    ensures kind { let b = file_at res.now.files id.file in
+        result.kind ≡ (rela_of b id.table id.entry).kind }
+    ensures symbol { let b = file_at res.now.files id.file in
+        result.symbol ≡ (rela_of b id.table id.entry).symbol }
+    ensures addend { let b = file_at res.now.files id.file in
+        result.addend ≡ (rela_of b id.table id.entry).addend }
+    ensures known { result.symbol < symbol_count (file_at res.now.files id.file) }
+{
+    res.set().view(id.file).rela(id.table, id.entry)
+}
+
+/// The addend of a record.
+fn addend_of(res: &Resolved, id: RecordId) -> i64
+    requires { IsRecord res.now.files id }
+    ensures { let b = file_at res.now.files id.file in
+        result ≡ (rela_of b id.table id.entry).addend }
+{
+    record_of(res, id).addend
+}
+
+/// The section that a record is about, which is one of its file.
+fn section_of(res: &Resolved, id: RecordId) -> u32
+    requires { IsRecord res.now.files id }
+    ensures section { result ≡ id.section }
+    ensures about { IsAbout (file_at res.now.files id.file) result }
+{
+    // no file of a set is refused
+    let _files = res.set().file_count();
+    id.section
+}
+
 /// The address of a record's field.
 pub fn field_address(res: &Resolved, plan: &DataPlan, text: &Places, id: RecordId) -> u64
     requires of_files { AreOfFiles res.now.files plan.now text.now.sections }
@@ -92,10 +130,9 @@ pub fn field_address(res: &Resolved, plan: &DataPlan, text: &Places, id: RecordI
     ensures { result ≡
         field_address res.now.files plan.now.span text.now.sections id }
 {
-    // none of the files is refused
-    let _files = res.set().file_count();
-    let offset = res.set().view(id.file).rela(id.table, id.entry).offset;
-    section_place(res, plan, text, id.file, id.section).wrapping_add(offset)
+    let section = section_of(res, id);
+    let offset = record_of(res, id).offset;
+    section_place(res, plan, text, id.file, section).wrapping_add(offset)
 }
 
 /// Whether a relocation loads from a slot.
@@ -134,7 +171,7 @@ fn source_address(
     ensures { result ≡
         source_address res.now.files plan.now.span text.now.sections id kind }
 {
-    let symbol = res.set().view(id.file).rela(id.table, id.entry).symbol;
+    let symbol = record_of(res, id).symbol;
     if is_slot_kind(kind) {
         return match plan.slot(id.file, symbol) {
             Some(address) => address,
@@ -166,7 +203,7 @@ pub fn record_value(
         record_value res.now.files plan.now.span text.now.sections id kind }
 {
     let source = source_address(res, plan, text, id, kind);
-    let addend = res.set().view(id.file).rela(id.table, id.entry).addend;
+    let addend = addend_of(res, id);
     let place = field_address(res, plan, text, id);
     value_of(kind, source, addend, place, plan.base_of(id.file))
 }
