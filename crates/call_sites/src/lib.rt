@@ -1,10 +1,17 @@
-// Calls: how each comes to its callee, and the words of a call once it is known how far it branches (ELFv2 ABI, "Function Call").
+// The calls of a link: where each stands, how it comes to its callee, and its words once it is known how far it branches (ELFv2 ABI,
+// "Function Call").
 #![tactic(auto)]
 
+mod callees;
+mod calls;
 mod class;
+mod finding;
+mod list;
 mod site;
 
 pub use class::{Callee, Linkage, changes_r2, class_of, entry_offset};
+pub use finding::sites;
+pub use list::Sites;
 pub use site::{CallSite, site_words};
 
 #[cfg(test)]

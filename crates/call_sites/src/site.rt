@@ -11,7 +11,7 @@ use stub_kinds::Class;
 /// ld r2,24(r1)
 const LD_R2: u32 = 0xE841_0018;
 
-const NOP: u32 = 0x6000_0000;
+pub const NOP: u32 = 0x6000_0000;
 
 /// b and bl, by 0 bytes.
 const B: u32 = 0x4800_0000;
