@@ -6,3 +6,5 @@ pub mod FileCalls
 pub mod ReadyFiles
 pub mod SitesLeft
 pub mod CallTargets
+pub mod SeenHalves
+pub mod SymbolsPassed

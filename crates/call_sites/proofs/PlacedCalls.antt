@@ -21,7 +21,7 @@ use Rattle.call_sites.specs.inside.Calls.{unsorted_calls, file_calls, IsInOrder}
 use Rattle.call_sites.proofs.KeptLists.{filter_same, filter_all, filter_twice, below, at, one_more}
 
 -- one number more
-range_more : (a n last : ℕ) → a + n ≡ last → range_with_len a (suc n) ≡ range_with_len a n ++ last ∷ []
+pub range_more : (a n last : ℕ) → a + n ≡ last → range_with_len a (suc n) ≡ range_with_len a n ++ last ∷ []
 range_more a zero last is =
     let here : a ≡ last = omega arith in
     ap (λ (m : ℕ). m ∷ []) here

@@ -1,3 +1,4 @@
 -- Words of private contracts.
 pub mod Calls
 pub mod Ready
+pub mod Halves

@@ -7,11 +7,13 @@ mod calls;
 mod class;
 mod finding;
 mod list;
+mod prologue;
 mod site;
 
 pub use class::{Callee, Linkage, changes_r2, class_of, entry_offset};
 pub use finding::sites;
 pub use list::Sites;
+pub use prologue::prologue_of;
 pub use site::{CallSite, site_words};
 
 #[cfg(test)]

@@ -1,4 +1,7 @@
 // Classes of calls, and words of sites.
+mod finding;
+mod listings;
+
 use crate::{CallSite, Callee, Linkage, changes_r2, class_of, entry_offset, site_words};
 use object_set::Site;
 use stub_kinds::Class;
