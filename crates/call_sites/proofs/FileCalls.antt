@@ -14,7 +14,7 @@ use Rattle.call_sites.specs.Sites.{is_call}
 use Rattle.call_sites.specs.laws.TextSizes.{text_small}
 use Rattle.call_sites.specs.laws.SoundCalls.{IsSoundCall, call_sound}
 use Rattle.call_sites.specs.inside.Calls.{IsCall, IsInOrder, unsorted_calls, file_calls}
-use Rattle.call_sites.proofs.RecordCalls.{unsorted_are}
+use Rattle.call_sites.specs.laws.RecordCalls.{unsorted_are}
 use Rattle.call_sites.proofs.PlacedCalls.{IsPlaced, calls_placed}
 
 placed_case : (files : List (List ℕ)) (f : RecordField) → set_refusal files ≡ None → IsSoundCall files f →

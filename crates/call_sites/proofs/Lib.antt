@@ -1,6 +1,4 @@
-pub mod KeptLists
 pub mod PlacedCalls
-pub mod RecordCalls
 pub mod StableSorts
 pub mod FileCalls
 pub mod ReadyFiles

@@ -18,14 +18,7 @@ use Rattle.symbol_table.specs.inside.Fields.{rank_of}
 use Rattle.symbol_table.specs.laws.FilteredLists.{filter_none}
 use Rattle.call_sites.specs.Sites.{is_call, begins_at, calls_at, calls_in, call_walk}
 use Rattle.call_sites.specs.inside.Calls.{unsorted_calls, file_calls, IsInOrder}
-use Rattle.call_sites.proofs.KeptLists.{filter_same, filter_all, filter_twice, below, at, one_more}
-
--- one number more
-pub range_more : (a n last : ℕ) → a + n ≡ last → range_with_len a (suc n) ≡ range_with_len a n ++ last ∷ []
-range_more a zero last is =
-    let here : a ≡ last = omega arith in
-    ap (λ (m : ℕ). m ∷ []) here
-range_more a (suc n) last is = ap (λ (l : List ℕ). a ∷ l) (range_more (a + 1) n last (omega arith))
+use Rattle.call_sites.specs.laws.KeptLists.{range_more, filter_same, filter_all, filter_twice, below, at, one_more}
 
 -- a call lies in a text section of the file
 pub record IsPlaced (b : List ℕ) (f : RecordField) : Type 0 where

@@ -4,7 +4,7 @@ use Rattle.std.specs.List.{list_any, range_with_len}
 use Rattle.std.proofs.Math.Bool.{or-false}
 use Rattle.std.proofs.lemmas.Bool.{cases_lt}
 use Rattle.std.proofs.lemmas.List.Folds.{list_any-append}
-use Rattle.call_sites.proofs.PlacedCalls.{range_more}
+use Rattle.call_sites.specs.laws.KeptLists.{range_more}
 
 or_true : (p : Bool) → (p || true) ≡ true
 or_true true = refl

@@ -199,3 +199,12 @@ site_sound files groups f whole none call =
     let goes = sound.goes in
     let is : call_site files groups f ≡ call_to files groups f (Some goes.0) = ap (call_to files groups f) goes.1.is in
     sound_case files groups f goes.0 whole none call sound goes.1.may is (call_site files groups f) is
+
+stands_any : (files : List (List ℕ)) (groups : List ℕ) (f : RecordField) (o : Option Target) → StandsAs files f (call_to files groups f o)
+stands_any files groups f (Some t) = stands_case files groups f t
+stands_any files groups f None = record { section = refl; offset = refl; slot = refl }
+
+-- the site of a call stands where its field does
+pub site_stands : (files : List (List ℕ)) (groups : List ℕ) (f : RecordField) → StandsAs files f (call_site files groups f)
+unfolding call_site
+site_stands files groups f = stands_any files groups f (call_target files f)

@@ -4,7 +4,7 @@ use Rattle.elf64_records.specs.Sections.{sh_info}
 use Rattle.object_set.specs.Files.{file_at}
 use Rattle.symbol_table.specs.Fields.{field_of}
 use Rattle.call_sites.specs.Sites.{is_call}
-use Rattle.call_sites.proofs.RecordCalls.{entry_more}
+use Rattle.call_sites.specs.laws.RecordCalls.{entry_more}
 use Rattle.call_sites.proofs.calls.push_table.Goals as goal
 
 pub loop-entry-preserved : goal.loop-entry-preserved

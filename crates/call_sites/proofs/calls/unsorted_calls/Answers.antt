@@ -5,7 +5,7 @@ use Rattle.object_set.specs.Files.{file_at}
 use Rattle.object_set.specs.Walks.{items_in, record_walk}
 use Rattle.symbol_table.specs.Fields.{field_of}
 use Rattle.call_sites.specs.Sites.{is_call}
-use Rattle.call_sites.proofs.RecordCalls.{table_more}
+use Rattle.call_sites.specs.laws.RecordCalls.{table_more}
 use Rattle.call_sites.proofs.calls.unsorted_calls.Goals as goal
 
 pub loop-table-preserved : goal.loop-table-preserved

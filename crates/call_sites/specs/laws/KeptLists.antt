@@ -1,6 +1,6 @@
 -- What tests keep of lists, and lists in order of numbers.
 use Rattle.std.proofs.Common.{◌≡◌, ◌<◌, ◌≤◌, ◌⊎◌, inl, inr, ℕ, zero, suc, ◌+◌, Bool, true, false, ◌&&◌, cond, eqb, ltb, List, [], ◌∷◌, ◌++◌, length, sym, ap, ◌∙◌, refl, arith}
-use Rattle.std.specs.List.{filter, slice_index_or}
+use Rattle.std.specs.List.{filter, range_with_len, slice_index_or}
 use Rattle.std.specs.List.Sorted.{IsNonDecreasingBy}
 use Rattle.std.proofs.lemmas.Bool.{cases_lt}
 use Rattle.std.proofs.lemmas.Bool.Decides.{nat_tests}
@@ -81,3 +81,10 @@ module _ {X : Type 0} (n : X → ℕ) where
                 (grind (arith, nat_tests)) (grind (arith, nat_tests)))
           ]
       ]
+
+-- one number more
+pub range_more : (a n last : ℕ) → a + n ≡ last → range_with_len a (suc n) ≡ range_with_len a n ++ last ∷ []
+range_more a zero last is =
+    let here : a ≡ last = omega arith in
+    ap (λ (m : ℕ). m ∷ []) here
+range_more a (suc n) last is = ap (λ (l : List ℕ). a ∷ l) (range_more (a + 1) n last (omega arith))
