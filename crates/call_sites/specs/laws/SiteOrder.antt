@@ -1,5 +1,5 @@
 -- Call sites stand in order, no two at one place, and each is sound.
-use Rattle.std.proofs.Common.{◌≡◌, ◌<◌, ◌≤◌, ◌⊎◌, inl, inr, ℕ, zero, suc, ◌+◌, ◌*◌, ◌^◌, Bool, true, false, not, ◌&&◌, eqb, List, [], ◌∷◌, ◌++◌, map, filter, length, length-append, Option, None, Some, slice_get, sym, ap, ◌∙◌, subst, refl, arith, if◌then◌else◌}
+use Rattle.std.proofs.Common.{◌≡◌, ◌<◌, ◌≤◌, ◌⊎◌, inl, inr, ℕ, zero, suc, ◌+◌, ◌*◌, ◌^◌, Bool, true, false, not, ◌&&◌, eqb,  add-one, List, [], ◌∷◌, ◌++◌, map, filter, length, length-append, Option, None, Some, slice_get, sym, ap, ◌∙◌, subst, refl, arith, if◌then◌else◌}
 use Rattle.std.specs.List.{All, flat_map, range_with_len, slice_index_or}
 use Rattle.std.proofs.lemmas.Bool.{cases_lt}
 use Rattle.std.proofs.lemmas.List.{append-nil}
@@ -239,3 +239,24 @@ pub sites_restored : (files : List (List ℕ)) (groups : List ℕ) (k : ℕ) (si
     slice_get (call_sites files groups) k ≡ Some site → site.restore ≡ true → site.slot ≡ true
 sites_restored files groups k site passes found restore =
     restored_case site (passes_at restore_refusal (call_sites files groups) k site passes found) restore
+
+get_at : {X : Type 0} (xs : List X) (k : ℕ) (d : X) → k < length xs → slice_get xs k ≡ Some (slice_index_or xs k d)
+get_at [] k d within = absurd (omega arith)
+get_at (x ∷ xs) zero d within = refl
+get_at (x ∷ xs) (suc k) d within = get_at xs k d (omega arith)
+
+-- the same of sites by their numbers
+module _ (files : List (List ℕ)) (groups : List ℕ) (whole : set_refusal files ≡ None) (none : records_refusal files ≡ None) where
+  pub site_sound_at : (i : ℕ) (d : CallSite) → i < length (call_sites files groups) →
+      IsSoundSite files groups (slice_index_or (call_sites files groups) i d)
+  site_sound_at i d within =
+      let sites = call_sites files groups in
+      sites_sound files groups whole none i (slice_index_or sites i d) (get_at sites i d within)
+
+  pub sites_ordered_at : (i : ℕ) (d : CallSite) → i + 1 < length (call_sites files groups) →
+      StandsBefore (slice_index_or (call_sites files groups) i d) (slice_index_or (call_sites files groups) (i + 1) d)
+  sites_ordered_at i d within =
+      let sites = call_sites files groups in
+      sites_in_order files groups whole none i (slice_index_or sites i d) (slice_index_or sites (i + 1) d)
+      (get_at sites i d (omega arith))
+      (ap (slice_get sites) (sym (add-one i)) ∙ get_at sites (i + 1) d within)

@@ -71,6 +71,21 @@ fn records_of(alloc: Global, rows: &str) -> Result<Vec<Record>, Fail> {
     Ok(records)
 }
 
+/// A text section of these bytes and records.
+fn sections_of<'a>(
+    alloc: Global,
+    bytes: &'a [u8],
+    records: &'a [Record],
+) -> Result<Vec<Section<'a>>, AllocError> {
+    let mut sections = Vec::new(alloc);
+    sections.push(Section {
+        bytes,
+        records,
+        ..Section::TEXT
+    })?;
+    Ok(sections)
+}
+
 /// An object of these parts.
 fn of_parts<'a>(sections: &'a [Section<'a>], symbols: &'a [Symbol<'a>]) -> Object<'a> {
     Object {
@@ -89,12 +104,7 @@ fn file_bytes(alloc: Global, file: &File) -> Result<FileBytes, Fail> {
     let bytes = bytes_of(alloc, file.words)?;
     let records = records_of(alloc, file.records)?;
     let symbols = symbols_of(alloc, file.symbols)?;
-    let mut sections = Vec::new(alloc);
-    sections.push(Section {
-        bytes: &bytes,
-        records: &records,
-        ..Section::TEXT
-    })?;
+    let sections = sections_of(alloc, &bytes, &records)?;
     Ok(FileBytes {
         name: String::from_str(alloc, "t.o")?,
         bytes: of_parts(&sections, &symbols).file(alloc)?,
