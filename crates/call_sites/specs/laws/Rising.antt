@@ -37,3 +37,11 @@ module _ {X : Type 0} (P : X → Type 0) (n : X → ℕ) where
       let rise = are.2.1 in
       omega (arith, rise, ap n here, ap n behind)
   rises_next low high (z ∷ xs) (suc k) x y are first second = rises_next (suc (n z)) high xs k x y are.2 first second
+
+  -- there are no more elements than numbers between the bounds
+  pub rises_few : (low high : ℕ) (xs : List X) → Rises low high xs → low + length xs ≤ high
+  rises_few low high [] are = omega arith
+  rises_few low high (x ∷ xs) are =
+      let rest = rises_few (suc (n x)) high xs are.2 in
+      let least = are.1 in
+      omega (arith, rest, least)

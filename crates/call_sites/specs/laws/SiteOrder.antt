@@ -1,5 +1,5 @@
 -- Call sites stand in order, no two at one place, and each is sound.
-use Rattle.std.proofs.Common.{◌≡◌, ◌<◌, ◌≤◌, ◌⊎◌, inl, inr, ℕ, zero, suc, ◌+◌, ◌*◌, ◌^◌, Bool, true, false, not, ◌&&◌, eqb,  add-one, List, [], ◌∷◌, ◌++◌, map, filter, length, length-append, Option, None, Some, slice_get, sym, ap, ◌∙◌, subst, refl, arith, if◌then◌else◌}
+use Rattle.std.proofs.Common.{◌≡◌, ◌<◌, ◌≤◌, ◌⊎◌, inl, inr, ℕ, zero, suc, ◌+◌, ◌*◌, ◌^◌, Bool, true, false, not, ◌&&◌, eqb,  add-one, List, [], ◌∷◌, ◌++◌, map, filter, take, length, length-append, Option, None, Some, slice_get, sym, ap, ◌∙◌, subst, refl, arith, if◌then◌else◌}
 use Rattle.std.specs.List.{All, flat_map, range_with_len, slice_index_or}
 use Rattle.std.proofs.lemmas.Bool.{cases_lt}
 use Rattle.std.proofs.lemmas.List.{append-nil}
@@ -25,21 +25,31 @@ use Rattle.symbol_table.specs.Text.{text_at, text_walk, text_sections, text_inde
 use Rattle.symbol_table.specs.inside.Fields.{IsFieldOf}
 use Rattle.symbol_table.proofs.FileRecords.{fields_are}
 use Rattle.call_sites.specs.declared.site.CallSite.{CallSite}
-use Rattle.call_sites.specs.Sites.{is_call, begins_at, calls_at, calls_in, call_walk, call_fields, call_site, call_sites}
-use Rattle.call_sites.specs.Refusals.{restore_refusal}
+use Rattle.call_sites.specs.Sites.{is_call, no_section, begins_at, calls_at, calls_in, call_walk, call_fields, call_site, call_sites}
+use Rattle.call_sites.specs.Refusals.{restore_refusal, section_size, text_size}
 use Rattle.call_sites.specs.inside.Calls.{IsCall, unsorted_calls}
 use Rattle.call_sites.specs.laws.KeptLists.{range_more, filter_twice}
 use Rattle.call_sites.specs.laws.OneCall.{one_call}
 use Rattle.call_sites.specs.laws.RecordCalls.{unsorted_are}
-use Rattle.call_sites.specs.laws.Rising.{Rises, rises_append, rises_higher, rises_at, rises_next}
+use Rattle.call_sites.specs.laws.Rising.{Rises, rises_append, rises_higher, rises_at, rises_next, rises_few}
 use Rattle.call_sites.specs.laws.SiteFacts.{IsSoundSite, StandsAs, site_sound, site_stands}
 use Rattle.call_sites.specs.laws.SoundCalls.{IsSoundCall, call_sound}
+use Rattle.call_sites.specs.laws.TextSections.{at_get}
 use Rattle.call_sites.specs.laws.TextSizes.{text_small}
+use Rattle.symbol_table.specs.laws.Text.{IsTextSection, text_index_found}
+use Rattle.std.specs.List.{sum_by}
+use Rattle.std.proofs.lemmas.List.{length-map}
+use Rattle.std.proofs.lemmas.List.Sums.{sum_by_more, sum_by-take-le}
+use Rattle.std.proofs.lemmas.Option.{slice_get_within}
 
-module _ (files : List (List ℕ)) where
+-- Numbers that begin each text section, each section's bytes past the one before.
+abbrev Makes : List (List ℕ) → (ℕ → ℕ) → Type 0
+Makes files base = (k file section : ℕ) → IsTextSection files k file section → base k + sh_size (file_at files file) section ≤ base (suc k)
+
+module _ (files : List (List ℕ)) (base : ℕ → ℕ) where
   -- a number that grows along site order
   abbrev key : RecordField → ℕ
-  key f = text_index files f.id.file f.id.section * 2 ^ 32 + f.start
+  key f = base (text_index files f.id.file f.id.section) + f.start
 
   abbrev Rise : ℕ → ℕ → List RecordField → Type 0
   Rise low high calls = Rises (IsCall files) key low high calls
@@ -63,19 +73,19 @@ module _ (files : List (List ℕ)) where
       λ k d within. record { call = each k d within; file_is = (own k d within).file_is; here = there k d within } in
       subst (All (IsHere file section offset)) (filter_twice (is_call b) begins fields) both
 
-  key_is : (file section offset : ℕ) (f : RecordField) → IsHere file section offset f → key f ≡ text_index files file section * 2 ^ 32 + offset
+  key_is : (file section offset : ℕ) (f : RecordField) → IsHere file section offset f → key f ≡ base (text_index files file section) + offset
   key_is file section offset f is =
       let parts = and_parts (eqb f.id.section section) (eqb f.start offset) is.here in
       let in_section = parts.0 in
       let at_offset = parts.1 in
       let own : f.id.section ≡ section = grind (arith, nat_tests, in_section) in
       let start : f.start ≡ offset = grind (arith, nat_tests, at_offset) in
-      ap (λ (n : ℕ). text_index files n f.id.section * 2 ^ 32 + f.start) is.file_is
-      ∙ ap (λ (n : ℕ). text_index files file n * 2 ^ 32 + f.start) own
-      ∙ ap (λ (n : ℕ). text_index files file section * 2 ^ 32 + n) start
+      ap (λ (n : ℕ). base (text_index files n f.id.section) + f.start) is.file_is
+      ∙ ap (λ (n : ℕ). base (text_index files file n) + f.start) own
+      ∙ ap (λ (n : ℕ). base (text_index files file section) + n) start
 
   few_rise : (file section offset : ℕ) (calls : List RecordField) → length calls ≤ 1 → All (IsHere file section offset) calls →
-      Rise (text_index files file section * 2 ^ 32 + offset) (text_index files file section * 2 ^ 32 + offset + 1) calls
+      Rise (base (text_index files file section) + offset) (base (text_index files file section) + offset + 1) calls
   few_rise file section offset [] few are = omega arith
   few_rise file section offset (f ∷ []) few are =
       let is = are 0 f (omega arith) in
@@ -83,25 +93,25 @@ module _ (files : List (List ℕ)) where
       (is.call, omega (arith, key_here), omega (arith, key_here))
   few_rise file section offset (f ∷ g ∷ calls) few are = absurd (omega arith)
 
-  module _ (whole : set_refusal files ≡ None) (none : records_refusal files ≡ None) where
+  module _ (whole : set_refusal files ≡ None) (none : records_refusal files ≡ None) (makes : Makes files base) where
     -- the calls at the first offsets of a section
     offsets_rise : (file section n : ℕ) → file < length files →
-        Rise (text_index files file section * 2 ^ 32) (text_index files file section * 2 ^ 32 + n)
+        Rise (base (text_index files file section)) (base (text_index files file section) + n)
         (flat_map (calls_at file (file_at files file) section) (range_with_len 0 n))
     offsets_rise file section zero file_in = omega arith
     offsets_rise file section (suc n) file_in =
         let b = file_at files file in
-        let base = text_index files file section * 2 ^ 32 in
+        let first = base (text_index files file section) in
         let f = calls_at file b section in
-        let here : Rise (base + n) (base + n + 1) (f n) =
+        let here : Rise (first + n) (first + n + 1) (f n) =
         few_rise file section n (f n) (one_call files file section n none file_in) (all_here file section n file_in) in
         let more : flat_map f (range_with_len 0 (suc n)) ≡ flat_map f (range_with_len 0 n) ++ f n =
         ap (flat_map f) (range_more 0 n n (omega arith)) ∙ flat_map-append f (range_with_len 0 n) (n ∷ [])
         ∙ ap (λ (l : List RecordField). flat_map f (range_with_len 0 n) ++ l) (append-nil (f n)) in
-        let next : base + n + 1 ≡ base + suc n = omega arith in
-        subst (λ (m : ℕ). Rise base m (flat_map f (range_with_len 0 (suc n)))) next
-        (subst (Rise base (base + n + 1)) (sym more)
-        (rises_append (IsCall files) key base (base + n) (base + n + 1) (flat_map f (range_with_len 0 n)) (f n)
+        let next : first + n + 1 ≡ first + suc n = omega arith in
+        subst (λ (m : ℕ). Rise first m (flat_map f (range_with_len 0 (suc n)))) next
+        (subst (Rise first (first + n + 1)) (sym more)
+        (rises_append (IsCall files) key first (first + n) (first + n + 1) (flat_map f (range_with_len 0 n)) (f n)
         (offsets_rise file section n file_in) here))
 
     -- the number of text sections before the next section
@@ -122,36 +132,39 @@ module _ (files : List (List ℕ)) where
 
     section_case : (file section : ℕ) (t : Bool) → is_text (file_at files file) section ≡ t → file < length files →
         section < e_shnum (file_at files file) →
-        Rise (text_index files file section * 2 ^ 32) (text_index files file (suc section) * 2 ^ 32)
+        Rise (base (text_index files file section)) (base (text_index files file (suc section)))
         (if t then flat_map (calls_at file (file_at files file) section) (range_with_len 0 (sh_size (file_at files file) section)) else [])
     section_case file section true text file_in within =
         let b = file_at files file in
         let size = sh_size b section in
-        let base = text_index files file section * 2 ^ 32 in
-        let small = text_small files file section whole file_in within text in
-        rises_higher (IsCall files) key base (base + size) (text_index files file (suc section) * 2 ^ 32)
+        let index = text_index files file section in
+        let next : text_index files file (suc section) ≡ suc index = omega (arith, index_case file section true text) in
+        let lies : IsTextSection files index file section =
+        record { file_in = file_in; within = within; text = text; index = refl } in
+        rises_higher (IsCall files) key (base index) (base index + size) (base (text_index files file (suc section)))
         (flat_map (calls_at file b section) (range_with_len 0 size))
-        (omega (arith, index_case file section true text, small))
+        (omega (arith, makes index file section lies, ap base next))
         (offsets_rise file section size file_in)
-    section_case file section false text file_in within = omega (arith, index_case file section false text)
+    section_case file section false text file_in within =
+        let same : text_index files file (suc section) ≡ text_index files file section = omega (arith, index_case file section false text) in
+        omega (arith, ap base same)
 
     section_rises : (file section : ℕ) → file < length files → section < e_shnum (file_at files file) →
-        Rise (text_index files file section * 2 ^ 32) (text_index files file (suc section) * 2 ^ 32)
-        (calls_in file (file_at files file) section)
+        Rise (base (text_index files file section)) (base (text_index files file (suc section))) (calls_in file (file_at files file) section)
     unfolding calls_in
     section_rises file section file_in within = section_case file section (is_text (file_at files file) section) refl file_in within
 
     file_rises : (file n : ℕ) → file < length files → n ≤ e_shnum (file_at files file) →
-        Rise (text_index files file 0 * 2 ^ 32) (text_index files file n * 2 ^ 32) (items_in call_walk file (file_at files file) n)
+        Rise (base (text_index files file 0)) (base (text_index files file n)) (items_in call_walk file (file_at files file) n)
     file_rises file zero file_in few = omega arith
     file_rises file (suc n) file_in few =
         let b = file_at files file in
-        rises_append (IsCall files) key (text_index files file 0 * 2 ^ 32) (text_index files file n * 2 ^ 32)
-        (text_index files file (suc n) * 2 ^ 32) (items_in call_walk file b n) (calls_in file b n)
+        rises_append (IsCall files) key (base (text_index files file 0)) (base (text_index files file n))
+        (base (text_index files file (suc n))) (items_in call_walk file b n) (calls_in file b n)
         (file_rises file n file_in (omega arith)) (section_rises file n file_in (omega arith))
 
     files_rise : (n : ℕ) → n ≤ length files →
-        Rise 0 (length (items_before text_walk files n) * 2 ^ 32) (items_before call_walk files n)
+        Rise (base 0) (base (length (items_before text_walk files n))) (items_before call_walk files n)
     files_rise zero few = omega arith
     files_rise (suc n) few =
         let b = file_at files n in
@@ -159,11 +172,40 @@ module _ (files : List (List ℕ)) where
         let first : text_index files n 0 ≡ length before = omega arith in
         let last : text_index files n (e_shnum b) ≡ length (before ++ items_in text_walk n b (e_shnum b)) =
         sym (length-append before (items_in text_walk n b (e_shnum b))) in
-        rises_append (IsCall files) key 0 (length before * 2 ^ 32) (length (before ++ items_in text_walk n b (e_shnum b)) * 2 ^ 32)
+        rises_append (IsCall files) key (base 0) (base (length before)) (base (length (before ++ items_in text_walk n b (e_shnum b))))
         (items_before call_walk files n) (items_in call_walk n b (e_shnum b)) (files_rise n (omega arith))
-        (subst (λ (m : ℕ). Rise (length before * 2 ^ 32) (m * 2 ^ 32) (items_in call_walk n b (e_shnum b))) last
-        (subst (λ (m : ℕ). Rise (m * 2 ^ 32) (text_index files n (e_shnum b) * 2 ^ 32) (items_in call_walk n b (e_shnum b))) first
+        (subst (λ (m : ℕ). Rise (base (length before)) (base m) (items_in call_walk n b (e_shnum b))) last
+        (subst (λ (m : ℕ). Rise (base m) (base (text_index files n (e_shnum b))) (items_in call_walk n b (e_shnum b))) first
         (file_rises n (e_shnum b) (omega arith) (omega arith))))
+
+    -- all calls of the files
+    pub calls_rise : Rise (base 0) (base (length (text_sections files))) (call_fields files)
+    calls_rise = files_rise (length files) (omega arith)
+
+-- each section at a number of its own
+abbrev place_base : ℕ → ℕ
+place_base k = k * 2 ^ 32
+
+places_make : (files : List (List ℕ)) → set_refusal files ≡ None → Makes files place_base
+places_make files whole k file section lies =
+    let small = text_small files file section whole lies.file_in lies.within lies.text in
+    omega (arith, small)
+
+-- each section behind the bytes of those before
+abbrev size_base : List (List ℕ) → ℕ → ℕ
+size_base files k = sum_by (section_size files) (take k (text_sections files))
+
+sizes_make : (files : List (List ℕ)) → Makes files (size_base files)
+sizes_make files k file section lies =
+    let texts = text_sections files in
+    let own : SectionId = record { file = file; section = section } in
+    let found : slice_get texts k ≡ Some own =
+    subst (λ (n : ℕ). slice_get texts n ≡ Some own) lies.index (text_index_found files file section lies.file_in lies.within lies.text) in
+    let within = slice_get_within texts k own found in
+    let more = sum_by_more (section_size files) texts k no_section within in
+    let here = ap (section_size files) (at_get texts k own no_section found) in
+    let next = ap (size_base files) (add-one k) in
+    omega (arith, more, here, next)
 
 -- what stands at a place of a list was made of what stands there
 mapped_at : {X Y : Type 0} (f : X → Y) (xs : List X) (k : ℕ) (y : Y) → slice_get (map f xs) k ≡ Some y →
@@ -209,8 +251,8 @@ module _ (files : List (List ℕ)) (groups : List ℕ) (whole : set_refusal file
   pub sites_sound : (k : ℕ) (site : CallSite) → slice_get (call_sites files groups) k ≡ Some site → IsSoundSite files groups site
   sites_sound k site found =
       let made = mapped_at (call_site files groups) (call_fields files) k site found in
-      let call = rises_at (IsCall files) (key files) 0 (length (text_sections files) * 2 ^ 32) (call_fields files) k made.0
-      (files_rise files whole none (length files) (omega arith)) made.1 in
+      let call = rises_at (IsCall files) (key files place_base) (place_base 0) (place_base (length (text_sections files))) (call_fields files) k made.0
+      (calls_rise files place_base whole none (places_make files whole)) made.1 in
       subst (IsSoundSite files groups) made.2 (site_sound files groups made.0 whole none call)
 
   -- and stands before the next
@@ -219,9 +261,10 @@ module _ (files : List (List ℕ)) (groups : List ℕ) (whole : set_refusal file
   sites_in_order k a b first second =
       let f = mapped_at (call_site files groups) (call_fields files) k a first in
       let g = mapped_at (call_site files groups) (call_fields files) (suc k) b second in
-      let rise = files_rise files whole none (length files) (omega arith) in
-      let less = rises_next (IsCall files) (key files) 0 (length (text_sections files) * 2 ^ 32) (call_fields files) k f.0 g.0 rise f.1 g.1 in
-      let rises = rises_at (IsCall files) (key files) 0 (length (text_sections files) * 2 ^ 32) (call_fields files) in
+      let rise = calls_rise files place_base whole none (places_make files whole) in
+      let less = rises_next (IsCall files) (key files place_base) (place_base 0) (place_base (length (text_sections files))) (call_fields files) k f.0 g.0
+      rise f.1 g.1 in
+      let rises = rises_at (IsCall files) (key files place_base) (place_base 0) (place_base (length (text_sections files))) (call_fields files) in
       let f_small = start_small files whole none f.0 (rises k f.0 rise f.1) in
       let g_small = start_small files whole none g.0 (rises (suc k) g.0 rise g.1) in
       let f_stands = subst (StandsAs files f.0) f.2 (site_stands files groups f.0) in
@@ -260,3 +303,15 @@ module _ (files : List (List ℕ)) (groups : List ℕ) (whole : set_refusal file
       sites_in_order files groups whole none i (slice_index_or sites i d) (slice_index_or sites (i + 1) d)
       (get_at sites i d (omega arith))
       (ap (slice_get sites) (sym (add-one i)) ∙ get_at sites (i + 1) d within)
+
+  -- there are no more sites than bytes of text
+  pub few_sites : length (call_sites files groups) ≤ text_size files
+  few_sites =
+      let calls = call_fields files in
+      let base = size_base files in
+      let last = length (text_sections files) in
+      let rise = calls_rise files base whole none (sizes_make files) in
+      let most = rises_few (IsCall files) (key files base) (base 0) (base last) calls rise in
+      let all = sum_by-take-le (section_size files) (text_sections files) last in
+      let many = length-map calls (call_site files groups) in
+      omega (arith, most, all, many)
