@@ -8,7 +8,7 @@ ghost use Rattle.call_sites.specs.Sites.{call_sites};
 ghost use Rattle.call_sites.specs.Refusals.{restore_refusal, text_size, sites_refusal};
 
 use crate::callees::{ready, text_section};
-use crate::list::{MOST_SITES, Sites};
+use crate::list::Sites;
 use crate::site::CallSite;
 use object_set::{Refusal, SectionId};
 use std::alloc::Global;
@@ -55,12 +55,11 @@ pub fn sites(alloc: Global, res: &Resolved, groups: &[u32]) -> Result<Sites, Ref
     ensures refusal { Answers result (sites_refusal res.now.files groups.now) }
     ensures sites { IfOk result (λ sites. sites ≡ call_sites res.now.files groups.now) }
 {
+    // none of the files is refused
+    let _files = res.set().file_count();
     check_text_size(res)?;
     let calls = ready(alloc, res, groups)?;
     let items = calls.all(alloc)?;
     check_restores(&items)?;
-    if items.len() > MOST_SITES {
-        return Err(Refusal::Memory);
-    }
     Ok(Sites { items })
 }

@@ -4,9 +4,6 @@ ghost use Rattle.std.specs.Prelude.{◌≡◌, ◌<◌, Some, length, slice_get}
 use crate::site::CallSite;
 use std::marker::Model;
 
-/// How many sites can be numbered.
-pub const MOST_SITES: usize = 0xFFFF_FFFF;
-
 /// The call sites of a link in site order: by file, by section, by offset. Contracts see their list.
 #[derive(Drop)]
 pub struct Sites {
@@ -15,14 +12,14 @@ pub struct Sites {
 
 impl Model for Sites {
     ghost use Rattle.std.specs.Prelude.{List, ◌≤◌, length};
-    ghost use Rattle.call_sites.specs.declared.list.TheConstants.{MOST_SITES};
+    ghost use Rattle.call_sites.specs.declared.finding.TheConstants.{TEXT_LIMIT};
     ghost use Rattle.call_sites.specs.declared.site.CallSite.{CallSite};
 
     ghost Value = { List CallSite };
 
     ghost view = { λ s. s.items.items };
 
-    ghost invariant = { λ s. length s.items.items ≤ MOST_SITES };
+    ghost invariant = { λ s. length s.items.items ≤ TEXT_LIMIT };
 }
 
 impl Sites {

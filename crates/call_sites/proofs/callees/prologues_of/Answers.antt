@@ -10,7 +10,9 @@ pub loop-file-preserved : goal.loop-file-preserved
 loop-file-preserved c =
     let files = c.set-set.result.now in
     let n = c.loop-file.file in
-    c.in_ok-push.ensures.items
-    ∙ ap (λ (l : List FileOf). l ++ c.in_ok-of_file.field-0 ∷ []) c.loop-file.invariant
-    ∙ ap (λ (f : FileOf). map (file_of files) (range_with_len 0 n) ++ f ∷ []) c.in_ok-of_file.ensures
-    ∙ sym (map-range_with_len_more (file_of files) 0 n n (omega arith))
+    let before : List FileOf = c.loop-file.prologues.items in
+    let so_far : before ≡ map (file_of files) (range_with_len 0 n) = c.loop-file.invariant in
+    let one : c.in_ok-of_file.field-0 ≡ file_of files n = c.in_ok-of_file.ensures in
+    let pushed : c.push.new.self.items ≡ before ++ c.in_ok-of_file.field-0 ∷ [] = c.in_ok-push.ensures.items in
+    let more = map-range_with_len_more (file_of files) 0 n n (omega arith) in
+    cc
