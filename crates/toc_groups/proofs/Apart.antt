@@ -186,7 +186,7 @@ module _ (files : List (List ℕ)) (sort : Sort) where
       subst (λ (l : List Extent). Begins l (sections_before files sort file' j)) (next_section file i is)
       (subst (λ (f : ℕ). Begins (sections_before files sort file (suc i)) (sections_before files sort f j)) same.0 all)
 
-  sections_fit : set_refusal files ≡ None → is_kept_sort sort ≡ true → AllByRecursion IsFitExtent (sections_of files sort)
+  pub sections_fit : set_refusal files ≡ None → is_kept_sort sort ≡ true → AllByRecursion IsFitExtent (sections_of files sort)
   sections_fit whole kept = fit_before files sort (length files) whole (omega arith) kept
 
   -- of two sections of a sort the one that comes first ends before the other begins
@@ -202,7 +202,7 @@ module _ (files : List (List ℕ)) (sort : Sort) where
       (begun IsFitExtent (sections_before files sort file' j) (sections_of files sort) there (sections_fit whole kept))
       (fit_section files file' j sort whole within' inside' kept is') some
 
-  section_in : (start file i : ℕ) → set_refusal files ≡ None → is_kept_sort sort ≡ true → file < length files →
+  pub section_in : (start file i : ℕ) → set_refusal files ≡ None → is_kept_sort sort ≡ true → file < length files →
       i < e_shnum (file_at files file) → sort_of (file_at files file) i ≡ sort → 0 < sh_size (file_at files file) i →
       (start ≤ placed (run_end start (sections_before files sort file i)) (section_extent (file_at files file) i))
       × (placed (run_end start (sections_before files sort file i)) (section_extent (file_at files file) i) + sh_size (file_at files file) i
@@ -232,7 +232,7 @@ module _ (files : List (List ℕ)) (span : ℕ) where
       (omega (arith, within, groups_long)) (omega (arith, size, some)) in
       omega (arith, this, size)
 
-  group_in : (g : ℕ) → g < group_count files span → 0 < whole_size g →
+  pub group_in : (g : ℕ) → g < group_count files span → 0 < whole_size g →
       (writable_start files ≤ group_start files span g) × (group_start files span g + whole_size g ≤ groups_end files span)
   group_in g within some =
       let pieces = group_extents files span in
@@ -248,7 +248,7 @@ module _ (files : List (List ℕ)) (span : ℕ) where
   among_case g n true before = omega (arith, group_end files span (suc n))
   among_case g n false before = omega (arith, before)
 
-  among_end : (g n : ℕ) → (group_among files span g n).first + (group_among files span g n).count ≤ n
+  pub among_end : (g n : ℕ) → (group_among files span g n).first + (group_among files span g n).count ≤ n
   among_end g zero = omega arith
   among_end g (suc n) = among_case g n (group_number files span n == g) (among_end g n)
 
@@ -318,7 +318,7 @@ module _ (files : List (List ℕ)) (span : ℕ) where
   abbrev pub toc_offset : ℕ → ℕ → ℕ
   toc_offset file i = placed (toc_before files span file i) (section_extent (file_at files file) i)
 
-  toc_in : (file i : ℕ) → set_refusal files ≡ None → file < length files → i < e_shnum (file_at files file) →
+  pub toc_in : (file i : ℕ) → set_refusal files ≡ None → file < length files → i < e_shnum (file_at files file) →
       sort_of (file_at files file) i ≡ Toc → 0 < sh_size (file_at files file) i →
       (slots_there files span file ≤ toc_offset file i)
       × (toc_offset file i + sh_size (file_at files file) i ≤ whole_size (group_number files span file))

@@ -1,5 +1,5 @@
 -- Memory while sections, slots and fields are put into it: each stands where it was put, since no two have an address in common.
-use Rattle.std.proofs.Common.{ℕ, zero, suc, ◌≡◌, ◌<◌, ◌≤◌, ◌+◌, ◌-◌, ◌*◌, ◌⊎◌, inl, inr, true, false, List, [], length, Some, None, slice_get, ap, sym, subst, ◌∙◌, refl, arith, get_or}
+use Rattle.std.proofs.Common.{ℕ, zero, suc, ◌≡◌, ◌≢◌, ◌<◌, ◌≤◌, ◌+◌, ◌-◌, ◌*◌, ◌⊎◌, inl, inr, Bool, true, false, List, [], length, Some, None, slice_get, ap, sym, subst, ◌∙◌, refl, arith, get_or}
 use Rattle.std.proofs.lemmas.Option.{slice_get_within}
 use Rattle.std.proofs.lemmas.Bool.{cases_lt}
 use Rattle.byteorder.specs.Endian.{little_bytes}
@@ -12,7 +12,8 @@ use Rattle.object_set.specs.declared.sort.Sort.{Sort}
 use Rattle.object_set.specs.declared.sort.Sort.TheVariants.{Text, Zeroed, Toc, Writable, ReadOnly, Dropped}
 use Rattle.object_set.specs.Files.{file_at}
 use Rattle.object_set.specs.Refusals.{set_refusal}
-use Rattle.object_set.specs.Sections.{sort_of}
+use Rattle.object_set.specs.Sections.{sort_of, is_kept_sort}
+use Rattle.symbol_table.specs.laws.Sections.{bytes_whole}
 use Rattle.symbol_table.specs.Sites.{is_data_sort}
 use Rattle.toc_groups.specs.Data.{group_slots}
 use Rattle.toc_groups.specs.Groups.{group_count}
@@ -31,6 +32,14 @@ laid_of_data Toc is = refl
 laid_of_data Writable is = refl
 laid_of_data ReadOnly is = refl
 laid_of_data Dropped is = cc
+
+kept_of_data : (s : Sort) → is_data_sort s ≡ true → is_kept_sort s ≡ true
+kept_of_data Text is = cc
+kept_of_data Zeroed is = cc
+kept_of_data Toc is = refl
+kept_of_data Writable is = refl
+kept_of_data ReadOnly is = refl
+kept_of_data Dropped is = cc
 
 abbrev pub section : ℕ → ℕ → SectionId
 section file i = record { file = file; section = i }
@@ -84,6 +93,27 @@ module _ (files : List (List ℕ)) (span : ℕ) where
       ap (λ (n : ℕ). slice_get (group_slots files span n) k) group ∙ ap (slice_get (group_slots files span h)) number ∙ is'.symbol in
       let both : Some s ≡ Some t = sym is.symbol ∙ there in
       cc
+
+  not_zeroed : (s : Sort) → is_data_sort s ≡ true → s ≢ Zeroed
+  not_zeroed s stored is =
+      let both : is_data_sort Zeroed ≡ true = sym (ap is_data_sort is) ∙ stored in
+      cc
+
+  -- a stored section has as many bytes as its header says
+  pub stored_size : (s : SectionId) → set_refusal files ≡ None → IsStored files s →
+      length (section_bytes (file_at files s.file) s.section) ≡ section_size files s
+  stored_size s whole is =
+      let b = file_at files s.file in
+      let sort = sort_of b s.section in
+      bytes_whole files s.file s.section whole is.there.file_in
+      (record { within = is.there.within; kept = kept_of_data sort is.sort }) (not_zeroed sort is.sort)
+
+  pub sort_stored : (set : List (List ℕ)) (file i : ℕ) (sort : Sort) (t : Bool) → set ≡ files → sort ≡ sort_of (file_at set file) i →
+      t ≡ is_data_sort sort → t ≡ true → file < length files → i < e_shnum (file_at files file) → IsStored files (section file i)
+  sort_stored set file i sort t same is test holds within inside = record {
+    there = record { file_in = within; within = inside };
+    sort = ap is_data_sort (sym (is ∙ ap (λ (s : List (List ℕ)). sort_of (file_at s file) i) same)) ∙ sym test ∙ holds;
+  }
 
   -- ---- sections
 

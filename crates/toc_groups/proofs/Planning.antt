@@ -38,7 +38,7 @@ past_end [] k d over = refl
 past_end (x ∷ xs) zero d over = absurd (omega (arith, over))
 past_end (x ∷ xs) (suc k) d over = past_end xs k d (omega (arith, over))
 
-slice_get_at : {X : Type 0} (xs : List X) (k : ℕ) (d : X) → k < length xs → slice_get xs k ≡ Some (get_or xs k d)
+pub slice_get_at : {X : Type 0} (xs : List X) (k : ℕ) (d : X) → k < length xs → slice_get xs k ≡ Some (get_or xs k d)
 slice_get_at [] k d within = absurd (omega (arith, within))
 slice_get_at (x ∷ xs) zero d within = refl
 slice_get_at (x ∷ xs) (suc k) d within = slice_get_at xs k d (omega (arith, within))

@@ -313,3 +313,30 @@ target_in files file j a (TocBase f addend) whole within inside is =
     let b = file_at files file in
     omega (arith, within, target_base files file j a f addend (j == 0) (is_toc_base b j) (is_local b j) is)
 target_in files file j a (WeakNone addend) whole within inside is = tt
+
+named_range : (f : ℕ → List SymbolId) (first n k : ℕ) → k < n → slice_get (map f (range_with_len first n)) k ≡ Some (f (first + k))
+named_range f first zero k within = absurd (omega (arith, within))
+named_range f first (suc n) zero within = ap (λ (x : ℕ). Some (f x)) (let e : first ≡ first + 0 = omega arith in e)
+named_range f first (suc n) (suc k) within =
+    named_range f (first + 1) n k (omega (arith, within))
+    ∙ ap (λ (x : ℕ). Some (f x)) (let e : first + 1 + k ≡ first + suc k = omega arith in e)
+
+module _ (files : List (List ℕ)) (span : ℕ) (plan : LaidData) (is : IsPlan files span plan) where
+  -- groups and their slots
+  pub named_found : (g : ℕ) → g < group_count files span → slice_get plan.named g ≡ Some (group_slots files span g)
+  named_found g within =
+      ap (λ (l : List (List SymbolId)). slice_get l g) is.named ∙ named_range (group_slots files span) 0 (group_count files span) g within
+      ∙ ap (λ (k : ℕ). Some (group_slots files span k)) (let e : 0 + g ≡ g = omega arith in e)
+
+  pub named_long : length plan.named ≡ group_count files span
+  named_long =
+      ap (λ (l : List (List SymbolId)). length l) is.named ∙ length-map-range_with_len (group_slots files span) 0 (group_count files span)
+
+  pub starts_long : length plan.starts ≡ group_count files span
+  starts_long = ap (λ (l : List ℕ). length l) is.starts ∙ length-map-range_with_len (group_start files span) 0 (group_count files span)
+
+  -- what is read as the slots of a group
+  pub slots_read : (g : ℕ) (xs : List SymbolId) → g < group_count files span → slice_get plan.named g ≡ Some xs → xs ≡ group_slots files span g
+  slots_read g xs within read =
+      let both : Some (group_slots files span g) ≡ Some xs = sym (named_found g within) ∙ read in
+      cc

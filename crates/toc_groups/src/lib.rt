@@ -3,6 +3,7 @@
 // the relocation records name; nothing here depends on how large text is.
 #![tactic(auto)]
 
+mod contents;
 mod extents;
 mod groups;
 mod laws;

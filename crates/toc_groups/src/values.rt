@@ -88,7 +88,7 @@ fn section_place(
 }
 
 /// What a record says.
-fn record_of(res: &Resolved, id: RecordId) -> Rela
+pub fn record_of(res: &Resolved, id: RecordId) -> Rela
     requires { IsRecord res.now.files id }
     ensures offset { let b = file_at res.now.files id.file in
         result.offset ≡ (rela_of b id.table id.entry).offset }
@@ -113,7 +113,7 @@ fn addend_of(res: &Resolved, id: RecordId) -> i64
 }
 
 /// The section that a record is about, which is one of its file.
-fn section_of(res: &Resolved, id: RecordId) -> u32
+pub fn section_of(res: &Resolved, id: RecordId) -> u32
     requires { IsRecord res.now.files id }
     ensures section { result ≡ id.section }
     ensures about { IsAbout (file_at res.now.files id.file) result }
