@@ -12,7 +12,8 @@ use Rattle.object_set.specs.declared.refusal.Refusal.{Refusal}
 use Rattle.object_set.specs.Files.{file_at}
 use Rattle.object_set.specs.Walks.{record_id}
 use Rattle.reloc_fields.specs.declared.kind.Kind.{Kind}
-use Rattle.std.specs.Prelude.{Option}
+use Rattle.std.specs.Prelude.{Option, ◌-◌, [], ◌∷◌, nat_lt, if◌then◌else◌}
+use Rattle.elf64_exec.specs.declared.layout.Segment.{Segment}
 use Rattle.toc_groups.specs.declared.slots.TheConstants.{SLOT_SIZE}
 use Rattle.toc_groups.specs.Contents.{HoldsBytes, IsStored, IsDataField, IsSlot, HasByte, section_start, section_size, field_bytes}
 use Rattle.toc_groups.specs.Parts.{Covers, slot_place}
@@ -73,3 +74,8 @@ table_overflow files span text file i = first_from (entry_overflow files span te
 
 abbrev pub file_overflow : List (List ℕ) → ℕ → List ℕ → ℕ → Option Refusal
 file_overflow files span text file = first_from (table_overflow files span text file) 0 (e_shnum (file_at files file))
+
+-- a segment of these bytes from one address to another, if it isn't empty
+abbrev pub segment : ℕ → List ℕ → ℕ → ℕ → List Segment
+segment flags bytes start end =
+    if nat_lt start end then record { flags = flags; address = start; bytes = bytes; size = end - start } ∷ [] else []

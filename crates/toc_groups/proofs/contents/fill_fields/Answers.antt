@@ -1,0 +1,18 @@
+-- loop-file: at the start all files are left.
+use Rattle.std.proofs.Common.{ℕ, ◌≡◌, ◌-◌, length, ap, sym, ◌∙◌, arith}
+use Rattle.elf64_records.specs.First.{first_from}
+use Rattle.toc_groups.specs.inside.Filled.{file_overflow}
+use Rattle.toc_groups.proofs.OverflowWalk.{overflow_first}
+use Rattle.toc_groups.proofs.contents.fill_fields.Goals as goal
+
+pub loop-file-init : goal.loop-file-init
+loop-file-init c =
+    let files = c.args.res.now.files in
+    let span = c.args.plan.now.span in
+    let text = c.args.text.now.sections in
+    let e : length files - 0 ≡ length files = omega arith in
+    record {
+      ends = c.requires.ends;
+      filled = c.requires.before;
+      left = ap (first_from (file_overflow files span text) 0) e ∙ sym (overflow_first files span text);
+    }
