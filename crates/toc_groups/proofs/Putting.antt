@@ -12,7 +12,8 @@ use Rattle.elf64_exec.specs.declared.memory_map.TheConstants.{IMAGE_START}
 use Rattle.placed_bytes.specs.Patches.{Patch, patched, number_patch, end_of}
 use Rattle.placed_bytes.specs.laws.Patched.{length-patched}
 use Rattle.toc_groups.specs.declared.pieces.DataEnds.{DataEnds}
-use Rattle.toc_groups.specs.Contents.{HoldsBytes}
+use Rattle.toc_groups.specs.Contents.{HoldsBytes, bytes_between}
+use Rattle.toc_groups.proofs.Planning.{same_list}
 use Rattle.toc_groups.specs.Parts.{Covers}
 use Rattle.toc_groups.specs.inside.Memory.{TwoParts, IsShaped, byte_of, HasRange, Puts}
 
@@ -213,3 +214,23 @@ wrote_second m ends first second b new bytes at i view shaped high some room is 
     subst (λ (n : TwoParts). Puts (byte_of n) at bytes (byte_of (parts ends first.items (with_items second new).items))) view
     (subst (λ (l : List ℕ). Puts (byte_of (parts ends first.items second.items)) at bytes (byte_of (parts ends first.items l))) (sym items)
     (puts_second ends first.items second.items at i bytes shaped high some range is))
+
+-- ---- the bytes of both parts
+
+pub between_first : (ends : DataEnds) (first second : List ℕ) → IsShaped ends first second →
+    first ≡ bytes_between (byte_of (parts ends first second)) IMAGE_START ends.read_only
+between_first ends first second shaped =
+    let m = parts ends first second in
+    same_list (byte_of m) 0 first IMAGE_START (ends.read_only - IMAGE_START) (omega (arith, shaped.read_only_size)) (λ i within.
+    let e : IMAGE_START + i - IMAGE_START ≡ i = omega arith in
+    sym (byte_first m (IMAGE_START + i) (omega arith) (omega (arith, within, shaped.read_only_size, shaped.order))
+    ∙ ap (λ (j : ℕ). get_or first j 0) e))
+
+pub between_second : (ends : DataEnds) (first second : List ℕ) → IsShaped ends first second →
+    second ≡ bytes_between (byte_of (parts ends first second)) ends.writable_start ends.writable
+between_second ends first second shaped =
+    let m = parts ends first second in
+    same_list (byte_of m) 0 second ends.writable_start (ends.writable - ends.writable_start) (omega (arith, shaped.writable_size)) (λ i within.
+    let e : ends.writable_start + i - ends.writable_start ≡ i = omega arith in
+    sym (byte_second m (ends.writable_start + i) (omega (arith, shaped.read_only_size, shaped.order)) (omega arith)
+    ∙ ap (λ (j : ℕ). get_or second j 0) e))

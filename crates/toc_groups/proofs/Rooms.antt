@@ -16,6 +16,7 @@ use Rattle.toc_groups.specs.Sections.{section_extent, sections_of}
 use Rattle.toc_groups.specs.Groups.{group_number, group_count}
 use Rattle.toc_groups.specs.Data.{read_only_end, writable_start, groups_end, writable_end, commons_end, data_end, address_by_sort, section_address, group_start, group_slots, data_refusal}
 use Rattle.toc_groups.specs.Parts.{slot_place}
+use Rattle.toc_groups.specs.declared.pieces.DataEnds.{DataEnds}
 use Rattle.toc_groups.specs.Plans.{data_ends}
 use Rattle.toc_groups.specs.inside.Memory.{HasRange}
 use Rattle.toc_groups.proofs.Apart.{section_in, toc_in, group_in, slot_in, sections_fit}
@@ -88,3 +89,25 @@ module _ (files : List (List ℕ)) (span : ℕ) where
       let group = group_in files span g within (omega (arith, there)) in
       let order = in_order files span whole in
       omega (arith, there, group.1, order.writable, order.zeroed, order.commons, data_low whole fits)
+
+  -- where the runs of data begin and end is in order
+  pub record AreEndsInOrder (ends : DataEnds) : Type 0 where
+    pub first : IMAGE_START ≤ ends.read_only
+    pub order : ends.read_only ≤ ends.writable_start
+    pub last : ends.writable_start ≤ ends.writable
+    pub limit : ends.writable < 2 ^ 63
+    pub written : ends.writable_start ≤ ends.commons
+
+  pub ends_in_order : (ends : DataEnds) → ends ≡ data_ends files span → set_refusal files ≡ None → data_refusal files span ≡ None →
+      AreEndsInOrder ends
+  ends_in_order ends are whole fits =
+      let order = in_order files span whole in
+      let grown = run_grows (sections_of files ReadOnly) IMAGE_START (sections_fit files ReadOnly whole refl) in
+      let low = data_low whole fits in
+      subst AreEndsInOrder (sym are) (record {
+        first = grown;
+        order = order.read_only;
+        last = omega (arith, order.groups, order.writable);
+        limit = omega (arith, order.zeroed, order.commons, low);
+        written = omega (arith, order.groups, order.writable, order.zeroed, order.commons);
+      })

@@ -14,8 +14,10 @@ mod slots;
 mod toc_ends;
 mod values;
 
+pub use contents::data_bytes;
 pub use laws::{parts_are_apart, plans_are_read};
 pub use plan::{DataPlan, lay_data};
+pub use values::{field_address, holds_value, record_value, symbol_address};
 
 #[cfg(test)]
 mod tests;

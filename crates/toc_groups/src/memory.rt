@@ -2,6 +2,7 @@
 ghost use Rattle.std.specs.Prelude.{◌≡◌, ◌<◌, ◌≤◌, ◌⊎◌, ◌^◌, ℕ, IfOk, length, slice_index};
 ghost use Rattle.byteorder.specs.Endian.{little_bytes};
 ghost use Rattle.elf64_exec.specs.declared.memory_map.TheConstants.{IMAGE_START};
+ghost use Rattle.toc_groups.specs.Contents.{bytes_between};
 ghost use Rattle.toc_groups.specs.inside.Memory.{byte_of, HasRange, Puts};
 
 use crate::pieces::DataEnds;
@@ -94,8 +95,10 @@ impl DataMemory {
 
     /// The bytes of the segment that is only read, and those of the one that is written.
     pub fn into_parts(self) -> (Vec<u8>, Vec<u8>)
-        ensures read_only { result.0.items ≡ self.read_only }
-        ensures writable { result.1.items ≡ self.writable }
+        ensures read_only { result.0.items ≡
+            bytes_between (byte_of self) IMAGE_START self.ends.read_only }
+        ensures writable { result.1.items ≡
+            bytes_between (byte_of self) self.ends.writable_start self.ends.writable }
     {
         (self.read_only, self.writable)
     }
