@@ -1,6 +1,12 @@
 // What follows for data that is laid out, for crates above.
-ghost use Rattle.std.specs.Prelude.{◌≡◌, ℕ, List, None};
+ghost use Rattle.std.specs.Prelude.{◌≡◌, ◌↔◌, ℕ, ℤ, List, None, true};
+ghost use Rattle.elf64_exec.specs.declared.layout.Segment.{Segment};
 ghost use Rattle.object_set.specs.Refusals.{set_refusal};
+ghost use Rattle.reloc_fields.specs.Table.{Check, Passes};
+ghost use Rattle.symbol_table.specs.Records.{records_refusal};
+ghost use Rattle.toc_groups.specs.Contents.{AreDataSegments};
+ghost use Rattle.toc_groups.specs.Data.{data_refusal};
+ghost use Rattle.toc_groups.specs.Values.{passes};
 ghost use Rattle.toc_groups.specs.Parts.{Part, Takes};
 ghost use Rattle.toc_groups.specs.Plans.{LaidData, IsPlan, TellsOf};
 
@@ -14,4 +20,16 @@ pub fn parts_are_apart()
 pub fn plans_are_read()
     ensures { (files : List (List ℕ)) (span : ℕ) (plan : LaidData) → IsPlan files span plan →
         TellsOf files span plan }
+{}
+
+/// The segments of data are determined by the files, the TOC span and the addresses of text.
+pub fn data_is_one()
+    ensures { (files : List (List ℕ)) (span : ℕ) (text : List ℕ) (xs ys : List Segment) →
+        set_refusal files ≡ None → records_refusal files ≡ None → data_refusal files span ≡ None →
+        AreDataSegments files span text xs → AreDataSegments files span text ys → xs ≡ ys }
+{}
+
+/// The test of a value is the table's.
+pub fn tests_are_the_table()
+    ensures { (check : Check) (x : ℤ) → (passes check x ≡ true) ↔ Passes check x }
 {}
