@@ -530,17 +530,17 @@ module _ (files : List (List ℕ)) (span : ℕ) where
   sections_one file i file' j a whole same first second = elim (cases_lt file file') [
     | inl less ↦ absurd (section_order file i file' j a whole (inl less) same first second)
     | inr most ↦ elim (cases_lt file' file) [
-        | inl less ↦ absurd (section_order file' j file i a whole (inl less) (sym same) second first)
-        | inr more ↦ (
-            let one : file ≡ file' = omega (arith, most, more) in
-            elim (cases_lt i j) [
-              | inl less ↦ absurd (section_order file i file' j a whole (inr (one, less)) same first second)
-              | inr last ↦ elim (cases_lt j i) [
-                  | inl less ↦ absurd (section_order file' j file i a whole (inr (sym one, less)) (sym same) second first)
-                  | inr least ↦ (one, (let e : i ≡ j = omega (arith, last, least) in e))
-                ]
-            ])
-      ]
+      | inl less ↦ absurd (section_order file' j file i a whole (inl less) (sym same) second first)
+      | inr more ↦ (
+          let one : file ≡ file' = omega (arith, most, more) in
+          elim (cases_lt i j) [
+            | inl less ↦ absurd (section_order file i file' j a whole (inr (one, less)) same first second)
+            | inr last ↦ elim (cases_lt j i) [
+              | inl less ↦ absurd (section_order file' j file i a whole (inr (sym one, less)) (sym same) second first)
+              | inr least ↦ (one, (let e : i ≡ j = omega (arith, last, least) in e))
+            ]
+          ])
+    ]
   ]
 
   -- ---- slots, and commons
@@ -556,12 +556,12 @@ module _ (files : List (List ℕ)) (span : ℕ) where
   slots_one g k h m a whole first second = elim (cases_lt g h) [
     | inl less ↦ absurd (slot_before g k h m a whole less first second)
     | inr most ↦ elim (cases_lt h g) [
-        | inl less ↦ absurd (slot_before h m g k a whole less second first)
-        | inr more ↦ (
-            let same : g ≡ h = omega (arith, most, more) in
-            let start = ap (group_start files span) same in
-            (same, (let e : k ≡ m = omega (arith, start, first.covers.from, first.covers.below, second.covers.from, second.covers.below) in e)))
-      ]
+      | inl less ↦ absurd (slot_before h m g k a whole less second first)
+      | inr more ↦ (
+          let same : g ≡ h = omega (arith, most, more) in
+          let start = ap (group_start files span) same in
+          (same, (let e : k ≡ m = omega (arith, start, first.covers.from, first.covers.below, second.covers.from, second.covers.below) in e)))
+    ]
   ]
 
   slot_and_toc : (g k file i a : ℕ) → set_refusal files ≡ None → sort_of (file_at files file) i ≡ Toc → Takes files span (of_slot g k) a →
@@ -579,16 +579,16 @@ module _ (files : List (List ℕ)) (span : ℕ) where
             let order = group_order files span g h less below (omega (arith, inside)) in
             omega (arith, inside, order, address, first.covers.below, second.covers.from))
         | inr most ↦ elim (cases_lt h g) [
-            | inl less ↦ (
-                let order = group_order files span h g less first.is.0 (omega (arith, there.1, some)) in
-                omega (arith, there.1, order, address, second.covers.below, first.covers.from))
-            | inr more ↦ (
-                let same : g ≡ h = omega (arith, most, more) in
-                let start = ap (group_start files span) same in
-                let slots : slots_there files span file ≡ 8 * length (group_slots files span g) =
-                ap (λ (n : ℕ). 8 * length (group_slots files span n)) (sym same) in
-                omega (arith, there.0, slots, start, address, first.is.1, first.covers.below, second.covers.from))
-          ]
+          | inl less ↦ (
+              let order = group_order files span h g less first.is.0 (omega (arith, there.1, some)) in
+              omega (arith, there.1, order, address, second.covers.below, first.covers.from))
+          | inr more ↦ (
+              let same : g ≡ h = omega (arith, most, more) in
+              let start = ap (group_start files span) same in
+              let slots : slots_there files span file ≡ 8 * length (group_slots files span g) =
+              ap (λ (n : ℕ). 8 * length (group_slots files span n)) (sym same) in
+              omega (arith, there.0, slots, start, address, first.is.1, first.covers.below, second.covers.from))
+        ]
       ]
 
   common_before : (c d a : ℕ) → set_refusal files ≡ None → c < d → Takes files span (of_common c) a → Takes files span (of_common d) a → ⊥
@@ -621,9 +621,9 @@ module _ (files : List (List ℕ)) (span : ℕ) where
   same_rank (of_common c) (of_common d) a whole first second same = elim (cases_lt c d) [
     | inl less ↦ absurd (common_before c d a whole less first second)
     | inr most ↦ elim (cases_lt d c) [
-        | inl less ↦ absurd (common_before d c a whole less second first)
-        | inr more ↦ (let e : c ≡ d = omega (arith, most, more) in ap of_common e)
-      ]
+      | inl less ↦ absurd (common_before d c a whole less second first)
+      | inr more ↦ (let e : c ≡ d = omega (arith, most, more) in ap of_common e)
+    ]
   ]
 
   -- no two parts have an address in common
@@ -631,7 +631,7 @@ module _ (files : List (List ℕ)) (span : ℕ) where
   parts_apart p q a whole first second = elim (cases_lt (rank p) (rank q)) [
     | inl less ↦ absurd (ranks_apart p q a whole first second less)
     | inr most ↦ elim (cases_lt (rank q) (rank p)) [
-        | inl less ↦ absurd (ranks_apart q p a whole second first less)
-        | inr more ↦ same_rank p q a whole first second (let e : rank p ≡ rank q = omega (arith, most, more) in e)
-      ]
+      | inl less ↦ absurd (ranks_apart q p a whole second first less)
+      | inr more ↦ same_rank p q a whole first second (let e : rank p ≡ rank q = omega (arith, most, more) in e)
+    ]
   ]

@@ -154,9 +154,9 @@ module _ (files : List (List ℕ)) (span : ℕ) (text : List ℕ) where
   record_or file i k q (inr same) = elim (same.1) [
     | inl less ↦ inl (inr (same.0, inl less))
     | inr entry ↦ elim (cases_lt q.entry k) [
-        | inl less ↦ inl (inr (same.0, inr (entry.0, less)))
-        | inr most ↦ inr (same.0, entry.0, (let e : q.entry ≡ k = omega (arith, most, entry.1) in e))
-      ]
+      | inl less ↦ inl (inr (same.0, inr (entry.0, less)))
+      | inr most ↦ inr (same.0, entry.0, (let e : q.entry ≡ k = omega (arith, most, entry.1) in e))
+    ]
   ]
 
   record_later : (file i k : ℕ) (q : RecordId) → RecordFirst file i k q → RecordFirst file i (k + 1) q
@@ -252,14 +252,14 @@ module _ (files : List (List ℕ)) (span : ℕ) (text : List ℕ) where
   in_table file i q is (inl less) = inl less
   in_table file i q is (inr same) = elim (same.1) [
     | inl less ↦ elim (cases_lt q.table i) [
-        | inl before ↦ inr (same.0, inl before)
-        | inr most ↦ (
-            let table : q.table ≡ i = omega (arith, less, most) in
-            let few : q.entry < record_count (file_at files file) i =
-            subst (λ (f : ℕ). q.entry < record_count (file_at files f) i) same.0
-            (subst (λ (t : ℕ). q.entry < record_count (file_at files q.file) t) table is.within) in
-            inr (same.0, inr (table, few)))
-      ]
+      | inl before ↦ inr (same.0, inl before)
+      | inr most ↦ (
+          let table : q.table ≡ i = omega (arith, less, most) in
+          let few : q.entry < record_count (file_at files file) i =
+          subst (λ (f : ℕ). q.entry < record_count (file_at files f) i) same.0
+          (subst (λ (t : ℕ). q.entry < record_count (file_at files q.file) t) table is.within) in
+          inr (same.0, inr (table, few)))
+    ]
     | inr entry ↦ absurd (omega (arith, entry.1))
   ]
 

@@ -69,8 +69,11 @@ module _ (files : List (List ℕ)) (span : ℕ) (text : List ℕ) where
   pub field_within : (r : RecordId) (k : Kind) → AreSound files span text → IsDataField files r k →
       offset_of files span text r + (line_of k).width ≤ length (section_bytes (file_at files r.file) r.section)
   field_within r k sound is =
-      omega (arith, (field_sound files span text r k sound is).within,
-      stored_size files span (home files span text r) sound.whole (home_stored files span text r k sound is))
+      omega (
+        arith,
+        (field_sound files span text r k sound is).within,
+        stored_size files span (home files span text r) sound.whole (home_stored files span text r k sound is),
+      )
 
   pub bytes_filled : (r : RecordId) (k : Kind) (bytes : List ℕ) (width offset x : ℕ) (v : ℤ) →
       bytes ≡ section_bytes (file_at files r.file) r.section → width ≡ (line_of k).width →

@@ -55,9 +55,9 @@ covers_or : (start size a : ℕ) → Decided (Covers start size a)
 covers_or start size a = elim (cases_lt a start) [
   | inl before ↦ inr (λ covers. omega (arith, covers.from, before))
   | inr from ↦ elim (cases_lt a (start + size)) [
-      | inl below ↦ inl (record { from = from; below = below })
-      | inr after ↦ inr (λ covers. omega (arith, covers.below, after))
-    ]
+    | inl below ↦ inl (record { from = from; below = below })
+    | inr after ↦ inr (λ covers. omega (arith, covers.below, after))
+  ]
 ]
 
 both_or : (P Q : Type 0) → Decided P → Decided Q → Decided (P × Q)
@@ -108,9 +108,9 @@ module _ (files : List (List ℕ)) (span : ℕ) (text : List ℕ) (sound : AreSo
   same_or x y = elim (cases_lt x y) [
     | inl less ↦ inr (λ same. omega (arith, less, same))
     | inr most ↦ elim (cases_lt y x) [
-        | inl less ↦ inr (λ same. omega (arith, less, same))
-        | inr more ↦ inl (let e : x ≡ y = omega (arith, most, more) in e)
-      ]
+      | inl less ↦ inr (λ same. omega (arith, less, same))
+      | inr more ↦ inl (let e : x ≡ y = omega (arith, most, more) in e)
+    ]
   ]
 
   abbrev entry_of : SectionId → ℕ → ℕ → RecordId

@@ -49,9 +49,9 @@ patch_beside : (b : List ℕ) (p : Patch) (i : ℕ) → end_of p ≤ length b �
 patch_beside b p i room beside = elim (cases_lt i p.at) [
   | inl before ↦ patch_before b p i room before
   | inr from ↦ elim (cases_lt i (end_of p)) [
-      | inl within ↦ absurd (beside from within)
-      | inr after ↦ patch_after b p i room after
-    ]
+    | inl within ↦ absurd (beside from within)
+    | inr after ↦ patch_after b p i room after
+  ]
 ]
 
 -- ---- an address in one of the two parts
@@ -91,9 +91,9 @@ pub all_zero : (ends : DataEnds) (first second : List ℕ) → IMAGE_START ≤ e
 all_zero ends first second order none none_too a = elim (cases_lt a IMAGE_START) [
   | inl low ↦ byte_below (parts ends first second) a low
   | inr from ↦ elim (cases_lt a ends.writable_start) [
-      | inl below ↦ byte_first (parts ends first second) a from below ∙ none (a - IMAGE_START)
-      | inr after ↦ byte_second (parts ends first second) a from after ∙ none_too (a - ends.writable_start)
-    ]
+    | inl below ↦ byte_first (parts ends first second) a from below ∙ none (a - IMAGE_START)
+    | inr after ↦ byte_second (parts ends first second) a from after ∙ none_too (a - ends.writable_start)
+  ]
 ]
 
 -- bytes put into the first part
@@ -114,12 +114,12 @@ puts_first ends first second at i bytes shaped low some (inl room) is =
       outside = λ a beside. elim (cases_lt a IMAGE_START) [
         | inl below ↦ byte_below new a below ∙ sym (byte_below old a below)
         | inr from ↦ elim (cases_lt a ends.writable_start) [
-            | inl before ↦ byte_first new a from before
-                ∙ patch_beside first p (a - IMAGE_START) fits (λ least most.
-                beside (record { from = omega (arith, least, is, from, room.0); below = omega (arith, most, is, from, room.0) }))
-                ∙ sym (byte_first old a from before)
-            | inr after ↦ byte_second new a from after ∙ sym (byte_second old a from after)
-          ]
+          | inl before ↦ byte_first new a from before
+              ∙ patch_beside first p (a - IMAGE_START) fits (λ least most.
+              beside (record { from = omega (arith, least, is, from, room.0); below = omega (arith, most, is, from, room.0) }))
+              ∙ sym (byte_first old a from before)
+          | inr after ↦ byte_second new a from after ∙ sym (byte_second old a from after)
+        ]
       ];
     }
 
@@ -141,12 +141,12 @@ puts_second ends first second at i bytes shaped high some (inr room) is =
       outside = λ a beside. elim (cases_lt a IMAGE_START) [
         | inl below ↦ byte_below new a below ∙ sym (byte_below old a below)
         | inr from ↦ elim (cases_lt a ends.writable_start) [
-            | inl before ↦ byte_first new a from before ∙ sym (byte_first old a from before)
-            | inr after ↦ byte_second new a from after
-                ∙ patch_beside second p (a - ends.writable_start) fits (λ least most.
-                beside (record { from = omega (arith, least, is, after, room.0); below = omega (arith, most, is, after, room.0) }))
-                ∙ sym (byte_second old a from after)
-          ]
+          | inl before ↦ byte_first new a from before ∙ sym (byte_first old a from before)
+          | inr after ↦ byte_second new a from after
+              ∙ patch_beside second p (a - ends.writable_start) fits (λ least most.
+              beside (record { from = omega (arith, least, is, after, room.0); below = omega (arith, most, is, after, room.0) }))
+              ∙ sym (byte_second old a from after)
+        ]
       ];
     }
 

@@ -28,7 +28,9 @@ ghost use Rattle.toc_groups.specs.inside.Filled.{AreCopied, AreSlotted, AreFille
 use crate::memory::DataMemory;
 use crate::plan::DataPlan;
 use crate::slots::SLOT_SIZE;
-use crate::values::{field_address, holds_value, record_of, record_value, section_of, symbol_address};
+use crate::values::{
+    field_address, holds_value, record_of, record_value, section_of, symbol_address,
+};
 use elf64_exec::{IMAGE_START, READ_ONLY, Segment, WRITABLE};
 use layout_rounds::Places;
 use object_set::{RecordId, Refusal, Site, Sort, SymbolId};
@@ -48,13 +50,7 @@ fn is_data_sort(sort: Sort) -> bool
 }
 
 /// Copies a section into memory, if it is data that its file has bytes of.
-fn copy_section(
-    memory: &mut DataMemory,
-    res: &Resolved,
-    plan: &DataPlan,
-    file: u32,
-    section: u32,
-)
+fn copy_section(memory: &mut DataMemory, res: &Resolved, plan: &DataPlan, file: u32, section: u32)
     requires plan { IsPlan res.now.files plan.now.span plan.now }
     requires ends { memory.old.ends ≡ plan.now.ends }
     requires file { file < length res.now.files }
@@ -162,13 +158,7 @@ fn put_slot(
 }
 
 /// Fills the slots of a group.
-fn put_group(
-    memory: &mut DataMemory,
-    res: &Resolved,
-    plan: &DataPlan,
-    text: &Places,
-    group: usize,
-)
+fn put_group(memory: &mut DataMemory, res: &Resolved, plan: &DataPlan, text: &Places, group: usize)
     requires of_files { AreOfFiles res.now.files plan.now text.now.sections }
     requires ends { memory.old.ends ≡ plan.now.ends }
     requires group { group < group_count res.now.files plan.now.span }
@@ -242,7 +232,11 @@ fn put_field(
     let _files = res.set().file_count();
     let offset = record_of(res, id).offset as usize;
     let address = field_address(res, plan, text, id);
-    memory.put_number(address, width(kind), filled_field(kind, bytes, offset, value));
+    memory.put_number(
+        address,
+        width(kind),
+        filled_field(kind, bytes, offset, value),
+    );
 }
 
 /// The kind of a record whose field is in data and has bytes.
@@ -470,6 +464,12 @@ pub fn data_bytes(
     let (read_only, writable) = memory.into_parts();
     let mut list = Vec::new(alloc);
     push_segment(&mut list, READ_ONLY, read_only, IMAGE_START, ends.read_only)?;
-    push_segment(&mut list, WRITABLE, writable, ends.writable_start, ends.commons)?;
+    push_segment(
+        &mut list,
+        WRITABLE,
+        writable,
+        ends.writable_start,
+        ends.commons,
+    )?;
     Ok(list)
 }

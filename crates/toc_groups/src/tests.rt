@@ -1,4 +1,5 @@
 // Data that was laid out by hand.
+mod bytes;
 mod files;
 mod layouts;
 mod loads;

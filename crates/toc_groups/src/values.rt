@@ -48,13 +48,7 @@ fn address_of(plan: &DataPlan, text: &Places, target: Target) -> u64
 /// The address of a symbol that stands for something, modulo 2^64: of a place in data by the plan, of a place in text by the addresses of
 /// text sections, of `.TOC.` the base of the symbol's file, and 0 of a weak symbol that stands for nothing (ELFv2 ABI, "Relocation
 /// Notations": S).
-pub fn symbol_address(
-    res: &Resolved,
-    plan: &DataPlan,
-    text: &Places,
-    file: u32,
-    symbol: u32,
-) -> u64
+pub fn symbol_address(res: &Resolved, plan: &DataPlan, text: &Places, file: u32, symbol: u32) -> u64
     requires of_files { AreOfFiles res.now.files plan.now text.now.sections }
     requires file { file < length res.now.files }
     requires symbol { symbol < symbol_count (file_at res.now.files file) }
@@ -68,13 +62,7 @@ pub fn symbol_address(
 }
 
 /// Where a section of a file lies, in text or in data.
-fn section_place(
-    res: &Resolved,
-    plan: &DataPlan,
-    text: &Places,
-    file: u32,
-    section: u32,
-) -> u64
+fn section_place(res: &Resolved, plan: &DataPlan, text: &Places, file: u32, section: u32) -> u64
     requires of_files { AreOfFiles res.now.files plan.now text.now.sections }
     requires file { file < length res.now.files }
     requires section { section < e_shnum (file_at res.now.files file) }
@@ -156,13 +144,7 @@ fn looks_at_symbol(kind: Kind) -> bool
 }
 
 /// What a record's value begins with: where its slot lies, or its symbol.
-fn source_address(
-    res: &Resolved,
-    plan: &DataPlan,
-    text: &Places,
-    id: RecordId,
-    kind: Kind,
-) -> u64
+fn source_address(res: &Resolved, plan: &DataPlan, text: &Places, id: RecordId, kind: Kind) -> u64
     requires of_files { AreOfFiles res.now.files plan.now text.now.sections }
     requires record { IsRecord res.now.files id }
     requires kind { kind_numbered (rela_of (file_at res.now.files id.file) id.table id.entry).kind

@@ -2,7 +2,7 @@
 use crate::{DataPlan, lay_data};
 use object_builder::{FileHeader, Object, Record, Section, Stated, Symbol};
 use object_set::{FileBytes, ObjectSet, Refusal};
-use ppc_bytes::constants::{SHF_ALLOC, SHN_COMMON, STB_GLOBAL, STB_WEAK};
+use ppc_bytes::constants::{SHF_ALLOC, SHN_ABS, SHN_COMMON, STB_GLOBAL, STB_WEAK};
 use std::alloc::Global;
 use std::test::Fail;
 use symbol_table::resolve;
@@ -18,6 +18,12 @@ pub enum Room {
     Writable(usize, u64),
     /// Zeros.
     Zeroed(u64, u64),
+    /// Data that is only read, with these bytes and records.
+    Constant(&'static [u8], &'static [Record]),
+    /// A part of the table of contents, with these bytes and records.
+    Slots(&'static [u8], &'static [Record]),
+    /// Data that may be written, with these bytes and records.
+    Data(&'static [u8], &'static [Record]),
 }
 
 /// A symbol.
@@ -33,6 +39,10 @@ pub enum Named {
     Perhaps(&'static [u8]),
     /// A common of this size and alignment.
     Common(&'static [u8], u64, u64),
+    /// One that only the file sees, at an offset of a section.
+    In(u16, u64),
+    /// One that only the file sees, which is a number.
+    Absolute(u64),
 }
 
 /// A file: section 1 is text, and these are the sections from 2 on, the symbols from 1 on, and the symbols that are loaded from slots.
@@ -97,6 +107,23 @@ fn section<'a>(room: Room, zeros: &'a [u8]) -> Section<'a> {
             },
             ..Section::ZEROED
         },
+        Room::Constant(bytes, records) => Section {
+            name: b".rodata",
+            flags: SHF_ALLOC,
+            bytes,
+            records,
+            ..Section::DATA
+        },
+        Room::Slots(bytes, records) => Section {
+            bytes,
+            records,
+            ..Section::TOC
+        },
+        Room::Data(bytes, records) => Section {
+            bytes,
+            records,
+            ..Section::DATA
+        },
     }
 }
 
@@ -107,6 +134,8 @@ fn symbol(named: Named) -> Symbol<'static> {
         Named::Elsewhere(name) => (name, STB_GLOBAL << 4, 0, 0, 0),
         Named::Perhaps(name) => (name, STB_WEAK << 4, 0, 0, 0),
         Named::Common(name, size, align) => (name, STB_GLOBAL << 4, SHN_COMMON, align, size),
+        Named::In(section, offset) => (b"own".as_slice(), 0, section, offset, 0),
+        Named::Absolute(n) => (b"own".as_slice(), 0, SHN_ABS, n, 0),
     };
     Symbol {
         name,
@@ -167,11 +196,8 @@ fn file_bytes(alloc: Global, file: &File, zeros: &[u8]) -> Result<Vec<u8>, Fail>
     Ok(of_parts(&sections, &symbols).file(alloc)?)
 }
 
-/// The plan of files with a TOC span, or why there is none.
-pub fn laid(alloc: Global, files: &[File], span: u32) -> Result<Result<DataPlan, Refusal>, Fail> {
-    if span % 8 != 0 || span < 16 || span > 0x1_0000 {
-        return Err(Fail::new("no TOC span"));
-    }
+/// The files with their bytes.
+pub fn list_of(alloc: Global, files: &[File]) -> Result<Vec<FileBytes>, Fail> {
     let zeros = vec![in alloc; 0u8; MOST]?;
     let mut list = Vec::new(alloc);
     for file in files {
@@ -180,6 +206,15 @@ pub fn laid(alloc: Global, files: &[File], span: u32) -> Result<Result<DataPlan,
             bytes: file_bytes(alloc, file, &zeros)?,
         })?;
     }
+    Ok(list)
+}
+
+/// The plan of files with a TOC span, or why there is none.
+pub fn laid(alloc: Global, files: &[File], span: u32) -> Result<Result<DataPlan, Refusal>, Fail> {
+    if span % 8 != 0 || span < 16 || span > 0x1_0000 {
+        return Err(Fail::new("no TOC span"));
+    }
+    let list = list_of(alloc, files)?;
     let list = list.as_slice();
     if list.len() > 4096 {
         return Err(Fail::new("too many files"));

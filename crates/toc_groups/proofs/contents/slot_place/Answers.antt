@@ -14,14 +14,21 @@ group_start-requires c =
 
 pub overflow_mul-result : goal.overflow_mul-result
 overflow_mul-result c =
-    omega (arith, few_slots c.args.res.now.files c.args.plan.now.span c.args.group c.args.k
-    (ap set_refusal (sym c.set.ensures) ∙ c.file_count-files.ensures.whole) c.requires.plan.fits c.requires.group c.requires.slot)
+    omega (
+      arith,
+      few_slots c.args.res.now.files c.args.plan.now.span c.args.group c.args.k
+          (ap set_refusal (sym c.set.ensures) ∙ c.file_count-files.ensures.whole) c.requires.plan.fits c.requires.group c.requires.slot,
+    )
 
 pub overflow_add-result : goal.overflow_add-result
 overflow_add-result c =
-    omega (arith, few_slots c.args.res.now.files c.args.plan.now.span c.args.group c.args.k
-    (ap set_refusal (sym c.set.ensures) ∙ c.file_count-files.ensures.whole) c.requires.plan.fits c.requires.group c.requires.slot,
-    start_is c.args.res.now.files c.args.plan.now.span c.args.plan.now c.requires.plan c.args.group c.requires.group, c.group_start.ensures)
+    omega (
+      arith,
+      few_slots c.args.res.now.files c.args.plan.now.span c.args.group c.args.k
+          (ap set_refusal (sym c.set.ensures) ∙ c.file_count-files.ensures.whole) c.requires.plan.fits c.requires.group c.requires.slot,
+      start_is c.args.res.now.files c.args.plan.now.span c.args.plan.now c.requires.plan c.args.group c.requires.group,
+      c.group_start.ensures,
+    )
 
 pub returns-clause-place : goal.returns-clause-place
 returns-clause-place c =

@@ -12,8 +12,11 @@ group_slots-requires c =
 
 pub offset_bounds-group_slots-k : goal.offset_bounds-group_slots-k
 offset_bounds-group_slots-k c =
-    omega (arith, few_slots c.args.res.now.files c.args.plan.now.span c.args.group c.args.k
-    (ap set_refusal (sym c.set.ensures) ∙ c.file_count-files.ensures.whole) c.requires.plan.fits c.requires.group c.requires.slot)
+    omega (
+      arith,
+      few_slots c.args.res.now.files c.args.plan.now.span c.args.group c.args.k
+          (ap set_refusal (sym c.set.ensures) ∙ c.file_count-files.ensures.whole) c.requires.plan.fits c.requires.group c.requires.slot,
+    )
 
 pub bounds-group_slots-k : goal.bounds-group_slots-k
 bounds-group_slots-k c =
