@@ -253,7 +253,7 @@ module _ (files : List (List ℕ)) (span : ℕ) where
   among_end g (suc n) = among_case g n (group_number files span n == g) (among_end g n)
 
   -- the `.toc` sections of a group may be laid out
-  group_tocs_fit : (g : ℕ) → set_refusal files ≡ None →
+  pub group_tocs_fit : (g : ℕ) → set_refusal files ≡ None →
       AllByRecursion IsFitExtent (tocs_of files (group_at files span g).first (group_at files span g).count)
   group_tocs_fit g whole =
       let all = tocs_of_files files (group_at files span g).first (group_at files span g).count whole (among_end g (length files)) in
@@ -419,25 +419,25 @@ module _ (files : List (List ℕ)) (span : ℕ) where
     pub from : low r ≤ start
     pub below : start + size ≤ low (suc r)
 
-  by_sort : (sort : Sort) (file i : ℕ) → set_refusal files ≡ None → file < length files → i < e_shnum (file_at files file) →
+  pub sort_lies : (sort : Sort) (file i : ℕ) → set_refusal files ≡ None → file < length files → i < e_shnum (file_at files file) →
       sort_of (file_at files file) i ≡ sort → is_laid_sort sort ≡ true → 0 < sh_size (file_at files file) i →
       Lies (rank_of sort) (address_by_sort files span file i (section_extent (file_at files file) i) sort) (sh_size (file_at files file) i)
-  by_sort ReadOnly file i whole within inside is laid some =
+  sort_lies ReadOnly file i whole within inside is laid some =
       let this = section_in files ReadOnly IMAGE_START file i whole refl within inside is some in
       record { from = this.0; below = omega (arith, this.1, (in_order files span whole).read_only) }
-  by_sort Toc file i whole within inside is laid some =
+  sort_lies Toc file i whole within inside is laid some =
       let g = group_number files span file in
       let this = toc_in files span file i whole within inside is some in
       let group = group_in files span g (number_below files span file within) (omega (arith, this.1, some)) in
       record { from = omega (arith, group.0); below = omega (arith, this.1, group.1) }
-  by_sort Writable file i whole within inside is laid some =
+  sort_lies Writable file i whole within inside is laid some =
       let this = section_in files Writable (groups_end files span) file i whole refl within inside is some in
       record { from = this.0; below = this.1 }
-  by_sort Zeroed file i whole within inside is laid some =
+  sort_lies Zeroed file i whole within inside is laid some =
       let this = section_in files Zeroed (writable_end files span) file i whole refl within inside is some in
       record { from = this.0; below = this.1 }
-  by_sort Text file i whole within inside is laid some = cc
-  by_sort Dropped file i whole within inside is laid some = cc
+  sort_lies Text file i whole within inside is laid some = cc
+  sort_lies Dropped file i whole within inside is laid some = cc
 
   abbrev rank : Part → ℕ
   rank (of_section file i) = rank_of (sort_of (file_at files file) i)
@@ -451,9 +451,9 @@ module _ (files : List (List ℕ)) (span : ℕ) where
       let grown = run_grows (tocs_of files all.first all.count) (slot_bytes files all.first all.count) (group_tocs_fit files span g whole) in
       omega (arith, grown, within)
 
-  lies : (p : Part) → set_refusal files ≡ None → IsPart files span p → 0 < size_of files span p → Lies (rank p) (start_of files span p) (size_of files span p)
+  pub lies : (p : Part) → set_refusal files ≡ None → IsPart files span p → 0 < size_of files span p → Lies (rank p) (start_of files span p) (size_of files span p)
   lies (of_section file i) whole is some =
-      by_sort (sort_of (file_at files file) i) file i whole is.0 is.1 refl is.2 some
+      sort_lies (sort_of (file_at files file) i) file i whole is.0 is.1 refl is.2 some
   lies (of_slot g k) whole is some =
       let inside = slot_in g k whole is.1 in
       let group = group_in files span g is.0 (omega (arith, inside)) in
@@ -464,7 +464,7 @@ module _ (files : List (List ℕ)) (span : ℕ) where
       (commons_fit files whole) some in
       record { from = this.0; below = this.1 }
 
-  has_room : (p : Part) (a : ℕ) → Takes files span p a → 0 < size_of files span p
+  pub has_room : (p : Part) (a : ℕ) → Takes files span p a → 0 < size_of files span p
   has_room p a takes = omega (arith, takes.covers.from, takes.covers.below)
 
   ranks_apart : (p q : Part) (a : ℕ) → set_refusal files ≡ None → Takes files span p a → Takes files span q a → rank p < rank q → ⊥

@@ -4,6 +4,7 @@ pub mod Slots
 pub mod Groups
 pub mod Data
 pub mod Parts
+pub mod PlacedData
 pub mod Plans
 pub mod Values
 pub mod Contents

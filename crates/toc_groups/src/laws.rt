@@ -8,6 +8,7 @@ ghost use Rattle.toc_groups.specs.Contents.{AreDataSegments};
 ghost use Rattle.toc_groups.specs.Data.{data_refusal};
 ghost use Rattle.toc_groups.specs.Values.{passes};
 ghost use Rattle.toc_groups.specs.Parts.{Part, Takes};
+ghost use Rattle.toc_groups.specs.PlacedData.{IsPlacedData};
 ghost use Rattle.toc_groups.specs.Plans.{LaidData, IsPlan, TellsOf};
 
 /// No two parts of data have an address in common.
@@ -32,4 +33,10 @@ pub fn data_is_one()
 /// The test of a value is the table's.
 pub fn tests_are_the_table()
     ensures { (check : Check) (x : ℤ) → (passes check x ≡ true) ↔ Passes check x }
+{}
+
+/// Data that isn't too big lies in its segments, one before the other, and text begins at a page behind them.
+pub fn data_is_placed()
+    ensures { (files : List (List ℕ)) (span : ℕ) → set_refusal files ≡ None → data_refusal files span ≡ None →
+        IsPlacedData files span }
 {}

@@ -15,7 +15,7 @@ mod toc_ends;
 mod values;
 
 pub use contents::data_bytes;
-pub use laws::{data_is_one, parts_are_apart, plans_are_read, tests_are_the_table};
+pub use laws::{data_is_one, data_is_placed, parts_are_apart, plans_are_read, tests_are_the_table};
 pub use plan::{DataPlan, lay_data};
 pub use values::{field_address, holds_value, record_value, symbol_address};
 
