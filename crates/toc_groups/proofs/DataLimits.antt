@@ -58,8 +58,12 @@ module _ (files : List (List ℕ)) (span : ℕ) (whole : set_refusal files ≡ N
       let begins = number_begins (sort_walk sort) files file i within (omega (arith, inside)) in
       let before = low_begins start (sections_before files sort file i) (sections_of files sort) begins (sections_fit files sort whole kept) in
       let fit = fit_section files file i sort whole within inside kept is in
-      omega (arith, most_placed (run_end start (sections_before files sort file i)) (commons_end files span) (section_extent (file_at files file) i) fit
-      (omega (arith, before, end, low)), data_low files span whole fits)
+      omega (
+        arith,
+        most_placed (run_end start (sections_before files sort file i)) (commons_end files span) (section_extent (file_at files file) i) fit
+            (omega (arith, before, end, low)),
+        data_low files span whole fits,
+      )
 
   toc_low : (file i : ℕ) → file < length files → i < e_shnum (file_at files file) → sort_of (file_at files file) i ≡ Toc →
       group_start files span (group_number files span file) + placed (toc_before files span file i) (section_extent (file_at files file) i)
@@ -105,8 +109,12 @@ module _ (files : List (List ℕ)) (span : ℕ) (whole : set_refusal files ≡ N
       let pieces = commons_of files in
       let fit = commons_fit files whole in
       let before = low_begins (zeroed_end files span) (take c pieces) pieces (take_begins pieces c) fit in
-      omega (arith, most_placed (run_end (zeroed_end files span) (take c pieces)) (commons_end files span) (get_or pieces c no_piece)
-      (fit_at pieces c no_piece fit within) before, data_low files span whole fits)
+      omega (
+        arith,
+        most_placed (run_end (zeroed_end files span) (take c pieces)) (commons_end files span) (get_or pieces c no_piece)
+            (fit_at pieces c no_piece fit within) before,
+        data_low files span whole fits,
+      )
 
   end_case : (commons start read_only : ℕ) (none : Bool) → (commons == start) ≡ none → start ≤ commons → read_only ≤ start →
       read_only ≤ (if none then read_only else commons)
