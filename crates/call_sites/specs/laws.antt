@@ -2,6 +2,7 @@
 pub mod KeptLists
 pub mod Rising
 pub mod TextSizes
+pub mod TextFacts
 pub mod TextSections
 pub mod CodePlaces
 pub mod SoundCalls

@@ -7,7 +7,7 @@ use std::marker::Model;
 /// The call sites of a link in site order: by file, by section, by offset. Contracts see their list.
 #[derive(Drop)]
 pub struct Sites {
-    pub items: Vec<CallSite>,
+    pub(crate) items: Vec<CallSite>,
 }
 
 impl Model for Sites {

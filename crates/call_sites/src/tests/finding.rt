@@ -1,5 +1,5 @@
 // Calls are found, classed and refused.
-use super::listings::{File, found, line_of};
+use super::listings::{File, found, line_of, recognised};
 use object_set::Refusal;
 use std::alloc::Global;
 use std::test::Fail;
@@ -111,6 +111,24 @@ fn r2_is_restored_in_a_nop_that_nothing_fills(rt: HostRuntime) -> Result<(), Fai
         };
         let text = told(rt.alloc(), &[file], &[0])?;
         assert_eq!(rt; text.as_str(), comes);
+    }
+    Ok(())
+}
+
+#[test]
+fn a_prologue_is_recognised_where_its_function_stands(rt: HostRuntime) -> Result<(), Fail> {
+    for (section, offset, is) in [
+        (0, 96, true),
+        // its second word, another prologue, a place without a symbol, past the section's end
+        (0, 100, false),
+        (0, 108, false),
+        (0, 0, false),
+        (0, 128, false),
+        (1, 0, true),
+        (1, 12, false),
+    ] {
+        let prologue = recognised(rt.alloc(), &[CALLER, OTHER], section, offset)?;
+        assert_eq!(rt; prologue, is, "{section} {offset}");
     }
     Ok(())
 }

@@ -1,5 +1,5 @@
 // Objects as listings: the words of section 1, the symbols and the records.
-use crate::{CallSite, Sites, sites};
+use crate::{CallSite, Sites, prologue_of, sites};
 use object_builder::{FileHeader, Object, Record, Section, Stated, Symbol};
 use object_set::{FileBytes, ObjectSet, Refusal};
 use std::alloc::{AllocError, Global};
@@ -111,16 +111,21 @@ fn file_bytes(alloc: Global, file: &File) -> Result<FileBytes, Fail> {
     })
 }
 
+fn files_of(alloc: Global, files: &[File]) -> Result<Vec<FileBytes>, Fail> {
+    let mut list = Vec::new(alloc);
+    for file in files {
+        list.push(file_bytes(alloc, file)?)?;
+    }
+    Ok(list)
+}
+
 /// The call sites of files of these TOC groups, or why there are none.
 pub fn found(
     alloc: Global,
     files: &[File],
     groups: &[u32],
 ) -> Result<Result<Sites, Refusal>, Fail> {
-    let mut list = Vec::new(alloc);
-    for file in files {
-        list.push(file_bytes(alloc, file)?)?;
-    }
+    let list = files_of(alloc, files)?;
     let list = list.as_slice();
     if list.len() > 4096 {
         return Err(Fail::new("too many files"));
@@ -135,6 +140,30 @@ pub fn found(
         return Err(Fail::new("a record is refused"));
     };
     Ok(sites(alloc, &resolved, groups))
+}
+
+/// Whether an offset of a text section of files has a recognised prologue.
+pub fn recognised(
+    alloc: Global,
+    files: &[File],
+    section: u32,
+    offset: u64,
+) -> Result<bool, Fail> {
+    let list = files_of(alloc, files)?;
+    let list = list.as_slice();
+    if list.len() > 4096 {
+        return Err(Fail::new("too many files"));
+    }
+    let Ok(set) = ObjectSet::take(alloc, list) else {
+        return Err(Fail::new("a file is refused"));
+    };
+    let Ok(resolved) = resolve(alloc, &set, b"_start") else {
+        return Err(Fail::new("a record is refused"));
+    };
+    if resolved.text_count() <= section {
+        return Err(Fail::new("no such section"));
+    }
+    Ok(prologue_of(&resolved, section, offset))
 }
 
 /// A site as a line: where it stands, its class, e, its callee, where it goes, and whether it has a slot and r2 is restored there.
