@@ -1,11 +1,10 @@
 -- Where calls go.
-use Rattle.std.proofs.Common.{◌≡◌, ◌<◌, ◌+◌, ◌^◌, ℕ, true, List, Option, None, Some, sym, ap, ◌∙◌, subst, refl, arith}
+use Rattle.std.proofs.Common.{◌≡◌, ℕ, true, List, None, Some, sym, ◌∙◌, subst, refl, arith}
 use Rattle.std.specs.Prelude.{IsSome}
 use Rattle.object_set.specs.Refusals.{set_refusal}
 use Rattle.symbol_table.specs.declared.fields.RecordField.{RecordField}
 use Rattle.symbol_table.specs.declared.target.Target.{Target}
 use Rattle.symbol_table.specs.declared.target.Target.TheVariants as target
-use Rattle.symbol_table.specs.declared.target.Piece.{Piece}
 use Rattle.symbol_table.specs.Records.{may_call, records_refusal}
 use Rattle.call_sites.specs.Sites.{call_target}
 use Rattle.call_sites.specs.laws.CodePlaces.{code_place}

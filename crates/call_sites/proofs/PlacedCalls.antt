@@ -1,7 +1,6 @@
 -- The calls of a file in order of their places are those that stand at each offset of each section.
-use Rattle.std.proofs.Common.{◌≡◌, ◌<◌, ◌≤◌, inl, inr, ℕ, zero, suc, ◌+◌, ◌*◌, ◌^◌, Bool, true, false, ◌&&◌, eqb, ltb, List, [], ◌∷◌, ◌++◌, length, sym, ap, ◌∙◌, subst, refl, arith, append_assoc, if◌then◌else◌}
+use Rattle.std.proofs.Common.{◌≡◌, ◌<◌, ◌≤◌, inl, inr, ℕ, zero, suc, ◌+◌, ◌*◌, ◌^◌, Bool, true, false, ◌&&◌, eqb, ltb, List, [], ◌∷◌, ◌++◌, sym, ap, ◌∙◌, subst, refl, arith, append_assoc, if◌then◌else◌}
 use Rattle.std.specs.List.{All, filter, flat_map, range_with_len, slice_index_or}
-use Rattle.std.specs.List.Sorted.{IsNonDecreasingBy}
 use Rattle.std.proofs.lemmas.Bool.{cases_lt}
 use Rattle.std.proofs.lemmas.Bool.Decides.{nat_tests}
 use Rattle.std.proofs.lemmas.List.{append-nil}
@@ -9,7 +8,6 @@ use Rattle.std.proofs.lemmas.List.Concat.{flat_map-append}
 use Rattle.std.proofs.lemmas.List.Sorted.{All-permutation}
 use Rattle.elf64_records.specs.FileHeader.{e_shnum}
 use Rattle.elf64_records.specs.Sections.{sh_size}
-use Rattle.object_set.specs.declared.places.RecordId.{RecordId}
 use Rattle.object_set.specs.Sections.{is_text}
 use Rattle.object_set.specs.Walks.{items_in}
 use Rattle.symbol_table.specs.declared.fields.RecordField.{RecordField}
@@ -45,9 +43,9 @@ below_tells own start section size small few within =
     elim (cases_lt own section) [
       | inl less ↦ grind (arith, nat_tests)
       | inr more ↦ elim (cases_lt section own) [
-          | inl past ↦ grind (arith, nat_tests)
-          | inr same ↦ (let here : start < size = within (omega arith) in grind (arith, nat_tests))
-        ]
+        | inl past ↦ grind (arith, nat_tests)
+        | inr same ↦ (let here : start < size = within (omega arith) in grind (arith, nat_tests))
+      ]
     ]
 
 all_below : (own start count : ℕ) → own < count → start ≤ 0x1000_0000 → ltb (own * 2 ^ 64 + start) (count * 2 ^ 64) ≡ true

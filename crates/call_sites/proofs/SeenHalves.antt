@@ -1,5 +1,5 @@
 -- Fields that have bytes of two words, seen one after the other.
-use Rattle.std.proofs.Common.{◌≡◌, ◌<◌, ◌≤◌, ℕ, pos, ◌+◌, Bool, true, false, ◌||◌, ◌&&◌, eqb, cond, min, List, [], ◌∷◌, ◌++◌, map, length, filter, sym, ap, ◌∙◌, refl, arith, append_assoc, add-one, if◌then◌else◌}
+use Rattle.std.proofs.Common.{◌≡◌, ℕ, ◌+◌, Bool, true, false, ◌||◌, ◌&&◌, eqb, cond, min, List, [], ◌∷◌, ◌++◌, map, length, filter, sym, ap, ◌∙◌, refl, arith, append_assoc, add-one, if◌then◌else◌}
 use Rattle.std.specs.List.{list_any}
 use Rattle.std.proofs.Math.Bool.{or-false}
 use Rattle.std.proofs.lemmas.Bool.Decides.{nat_tests}

@@ -1,10 +1,8 @@
 -- A walk along sites that looks for the first one without its slot.
-use Rattle.std.proofs.Common.{◌≡◌, ◌<◌, ◌≤◌, ℕ, ◌+◌, Bool, true, false, not, ◌&&◌, List, [], ◌∷◌, length, drop, drop-cons, add-one, Option, None, Some, sym, ap, ◌∙◌, refl, arith, if◌then◌else◌}
+use Rattle.std.proofs.Common.{◌≡◌, ◌<◌, ℕ, ◌+◌, Bool, true, false, not, ◌&&◌, List, ◌∷◌, length, drop, drop-cons, add-one, Some, sym, ap, ◌∙◌}
 use Rattle.std.specs.List.{slice_index_or}
-use Rattle.std.proofs.lemmas.List.{drop_all}
-use Rattle.elf64_records.specs.First.{first_in, when, ◌orelse◌}
+use Rattle.elf64_records.specs.First.{first_in, when}
 use Rattle.elf64_records.specs.laws.First.{list_passes, list_stops}
-use Rattle.object_set.specs.declared.refusal.Refusal.{Refusal}
 use Rattle.object_set.specs.declared.refusal.Refusal.TheVariants.{NoRestore}
 use Rattle.call_sites.specs.declared.site.CallSite.{CallSite}
 use Rattle.call_sites.specs.Refusals.{restore_refusal}

@@ -1,5 +1,5 @@
 -- How a call comes to its callee (ELFv2 ABI, "Function Call" and "Symbol Values": the entry points of a function, and r2 across a call).
-use Rattle.std.specs.Prelude.{ℕ, ◌+◌, Bool, true, false, ◌==◌, nat_le, if◌then◌else◌}
+use Rattle.std.specs.Prelude.{ℕ, Bool, true, false, ◌==◌, nat_le, if◌then◌else◌}
 use Rattle.stub_kinds.specs.declared.class.Class.{Class}
 use Rattle.stub_kinds.specs.declared.class.Class.TheVariants.{Same, Switch, Save, NearN, EntrySave, EntryBare, EntryN}
 use Rattle.call_sites.specs.declared.class.Callee.{Callee}

@@ -1,6 +1,5 @@
 -- The words of a call and of the instruction behind it (Power ISA 3.1, "Branch Instructions"; ELFv2 ABI, "Function Call").
 use Rattle.std.specs.Prelude.{ℕ, ℤ, ◌+◌, Bool, Option, Some, None, if◌then◌else◌}
-use Rattle.ppc_bytes.specs.Halves.{low_of}
 use Rattle.stub_kinds.specs.Stubs.{nop, branch}
 use Rattle.stub_kinds.specs.declared.class.Class.{Class}
 

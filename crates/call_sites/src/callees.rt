@@ -16,10 +16,10 @@ ghost use Rattle.call_sites.specs.laws.SoundCalls.{IsSoundCall};
 ghost use Rattle.call_sites.specs.inside.Calls.{IsCall, AreFacts, MayEnter, file_calls};
 ghost use Rattle.call_sites.specs.inside.Ready.{text_bytes, bytes_of, file_of, files_of};
 
-use elf64_records::Rela;
 use crate::calls::{file_calls, linkage_of};
 use crate::class::{Callee, Linkage, changes_r2, class_of, entry_offset};
 use crate::site::{CallSite, NOP};
+use elf64_records::Rela;
 use object_set::{SectionId, Site};
 use ppc_bytes::word_at;
 use std::alloc::{AllocError, Global};
@@ -161,7 +161,10 @@ impl<'r, 'a, 'b> Calls<'r, 'a, 'b> {
             AreFacts facts result }
         ensures known { result.symbol < symbol_count (file_at self.now.files call.id.file) }
     {
-        self.res.set().view(call.id.file).rela(call.id.table, call.id.entry)
+        self.res
+            .set()
+            .view(call.id.file)
+            .rela(call.id.table, call.id.entry)
     }
 
     /// The entry points of a call's callee.
@@ -319,9 +322,10 @@ impl<'r, 'a, 'b> Calls<'r, 'a, 'b> {
                 let callee = self.callee(call, section, offset);
                 self.call_of(call, section, offset, callee)
             }
-            Target::Data { .. } | Target::Number(_) | Target::TocBase { .. } | Target::WeakNone(_) => {
-                self.call_of_nothing(call)
-            }
+            Target::Data { .. }
+            | Target::Number(_)
+            | Target::TocBase { .. }
+            | Target::WeakNone(_) => { self.call_of_nothing(call) }
         }
     }
 

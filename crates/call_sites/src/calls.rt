@@ -79,11 +79,7 @@ fn push_table(
 }
 
 /// The calls of a file, in record order.
-fn unsorted_calls(
-    alloc: Global,
-    set: &ObjectSet,
-    file: u32,
-) -> Result<Vec<RecordField>, AllocError>
+fn unsorted_calls(alloc: Global, set: &ObjectSet, file: u32) -> Result<Vec<RecordField>, AllocError>
     requires { file < length set.now }
     ensures { IfOk result (λ calls. calls.items ≡ unsorted_calls file (file_at set.now file)) }
 {

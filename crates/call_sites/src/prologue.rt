@@ -203,7 +203,9 @@ fn is_form(set: &ObjectSet, halves: Halves, file: u32, bytes: &[u8]) -> bool
     ensures { result ≡ is_form file (file_at set.now file) halves }
 {
     let at = halves.at as usize;
-    if word_at(bytes, at) >> 16 != halves.form.high_half || word_at(bytes, at + 4) >> 16 != ADDI_R2_R2 {
+    if word_at(bytes, at) >> 16 != halves.form.high_half
+        || word_at(bytes, at + 4) >> 16 != ADDI_R2_R2
+    {
         return false;
     }
     let seen = seen_of(set, halves, file);
@@ -217,10 +219,7 @@ pub fn prologue_of(res: &Resolved, section: u32, offset: u64) -> bool
     requires { section < length (text_sections res.now.files) }
     ensures { result ≡ is_recognised res.now.files section offset }
 {
-    let SectionId {
-        file,
-        section: own,
-    } = text_section(res, section);
+    let SectionId { file, section: own } = text_section(res, section);
     let set = res.set();
     // no symbol of a set is refused, so that the words lie in the section
     let _files = set.file_count();

@@ -1,5 +1,5 @@
 -- A place of text that is an instruction's.
-use Rattle.std.proofs.Common.{◌≡◌, ◌<◌, ◌≤◌, ◌+◌, ◌%◌, ◌^◌, ℕ, Bool, true, List, length, Option, None, Some, slice_get, sym, ap, ◌∙◌, subst, refl, arith}
+use Rattle.std.proofs.Common.{◌≡◌, ◌<◌, ◌≤◌, ◌%◌, ℕ, true, List, length, Option, None, Some, slice_get, refl, arith}
 use Rattle.std.specs.Prelude.{◌&&◌, ◌==◌, nat_lt}
 use Rattle.std.proofs.lemmas.Bool.{and_parts}
 use Rattle.std.proofs.lemmas.Bool.Decides.{nat_tests}
@@ -9,9 +9,7 @@ use Rattle.object_set.specs.declared.places.SectionId.{SectionId}
 use Rattle.object_set.specs.Files.{file_at}
 use Rattle.object_set.specs.Refusals.{set_refusal}
 use Rattle.object_set.specs.Sections.{is_text}
-use Rattle.symbol_table.specs.declared.target.Target.{Target}
-use Rattle.symbol_table.specs.declared.target.Target.TheVariants as target
-use Rattle.symbol_table.specs.Records.{is_code, is_code_in, may_call}
+use Rattle.symbol_table.specs.Records.{is_code, is_code_in}
 use Rattle.symbol_table.specs.Text.{text_sections}
 use Rattle.symbol_table.specs.laws.Text.{IsTextSection, text_section_at}
 use Rattle.call_sites.specs.laws.TextSizes.{text_small}
@@ -34,15 +32,17 @@ place_case files k offset (Some s) whole found is =
     let first = and_parts (is_text b s.section) (offset % 4 == 0) all.0 in
     let lies = text_section_at files k s found in
     let whole_word = first.1 in
-    let inside = all.1 in
-    (s, record {
-      number = slice_get_within (text_sections files) k s found;
-      found = found;
-      lies = lies;
-      aligned = grind (arith, nat_tests, whole_word);
-      within = grind (arith, nat_tests, inside);
-      small = text_small files s.file s.section whole lies.file_in lies.within lies.text;
-    })
+    let inside = all.1 in (
+      s,
+      record {
+        number = slice_get_within (text_sections files) k s found;
+        found = found;
+        lies = lies;
+        aligned = grind (arith, nat_tests, whole_word);
+        within = grind (arith, nat_tests, inside);
+        small = text_small files s.file s.section whole lies.file_in lies.within lies.text;
+      },
+    )
 
 pub code_place : (files : List (List ℕ)) (k offset : ℕ) → set_refusal files ≡ None → is_code files k offset ≡ true →
     (s : SectionId) × IsCodePlace files k offset s

@@ -1,5 +1,5 @@
 -- What tests keep of lists, and lists in order of numbers.
-use Rattle.std.proofs.Common.{◌≡◌, ◌<◌, ◌≤◌, ◌⊎◌, inl, inr, ℕ, zero, suc, ◌+◌, Bool, true, false, ◌&&◌, cond, eqb, ltb, List, [], ◌∷◌, ◌++◌, length, sym, ap, ◌∙◌, refl, arith}
+use Rattle.std.proofs.Common.{◌≡◌, ◌<◌, ◌≤◌, inl, inr, ℕ, zero, suc, ◌+◌, Bool, true, false, ◌&&◌, cond, eqb, ltb, List, [], ◌∷◌, ◌++◌, length, sym, ap, ◌∙◌, refl, arith}
 use Rattle.std.specs.List.{filter, range_with_len, slice_index_or}
 use Rattle.std.specs.List.Sorted.{IsNonDecreasingBy}
 use Rattle.std.proofs.lemmas.Bool.{cases_lt}
@@ -71,15 +71,15 @@ module _ {X : Type 0} (n : X → ℕ) where
         | inl low ↦ joined x all less here (below (suc r) x) (below r x) (at r x) rest (grind (arith, nat_tests)) (grind (arith, nat_tests))
             (grind (arith, nat_tests))
         | inr high ↦ elim (cases_lt r (n x)) [
-            | inl past ↦ joined_past x all less here (below (suc r) x) (below r x) (at r x) rest (grind (arith, nat_tests))
-                (grind (arith, nat_tests)) (grind (arith, nat_tests))
-            | inr same ↦ (
-                let none : less ≡ [] = filter_none (below r) xs
-                (λ k d within. (let least : n x ≤ n (slice_index_or xs k d) = sorted 0 (suc k) d (omega arith) (omega arith) in
-                grind (arith, nat_tests))) in
-                joined_here x all less here (below (suc r) x) (below r x) (at r x) rest none (grind (arith, nat_tests))
-                (grind (arith, nat_tests)) (grind (arith, nat_tests)))
-          ]
+          | inl past ↦ joined_past x all less here (below (suc r) x) (below r x) (at r x) rest (grind (arith, nat_tests))
+              (grind (arith, nat_tests)) (grind (arith, nat_tests))
+          | inr same ↦ (
+              let none : less ≡ [] = filter_none (below r) xs
+              (λ k d within. (let least : n x ≤ n (slice_index_or xs k d) = sorted 0 (suc k) d (omega arith) (omega arith) in
+              grind (arith, nat_tests))) in
+              joined_here x all less here (below (suc r) x) (below r x) (at r x) rest none (grind (arith, nat_tests))
+              (grind (arith, nat_tests)) (grind (arith, nat_tests)))
+        ]
       ]
 
 -- one number more

@@ -1,5 +1,5 @@
 -- At an offset of a section stands one call at most, since the fields of records that aren't refused have no bytes in common.
-use Rattle.std.proofs.Common.{◌≡◌, ◌<◌, ◌≤◌, ◌⊎◌, inl, inr, ℕ, zero, suc, ◌+◌, Bool, true, false, ◌&&◌, ◌||◌, cond, eqb, ltb, List, [], ◌∷◌, ◌++◌, map, filter, length, Option, None, Some, sym, ap, ◌∙◌, subst, refl, arith}
+use Rattle.std.proofs.Common.{◌≡◌, ◌<◌, ◌≤◌, inl, inr, ℕ, zero, suc, Bool, true, false, ◌&&◌, cond, eqb, List, [], ◌∷◌, ◌++◌, map, filter, length, Option, None, Some, sym, ap, ◌∙◌, subst, refl, arith}
 use Rattle.std.specs.Prelude.{is_some}
 use Rattle.std.specs.List.{AllByRecursion}
 use Rattle.std.proofs.lemmas.Bool.{and_parts}
@@ -13,10 +13,10 @@ use Rattle.reloc_fields.specs.declared.kind.Kind.{Kind}
 use Rattle.reloc_fields.specs.declared.kind.Kind.TheVariants as kind
 use Rattle.reloc_fields.specs.Table.{line_of}
 use Rattle.symbol_table.specs.declared.fields.RecordField.{RecordField}
-use Rattle.symbol_table.specs.Fields.{kind_numbered, width_in, field_of, fields_of, records_of, comes_before}
+use Rattle.symbol_table.specs.Fields.{kind_numbered, width_in, field_of, records_of, comes_before}
 use Rattle.symbol_table.specs.Records.{records_refusal}
-use Rattle.symbol_table.specs.laws.Records.{IsSoundRecord, records_sound, fields_apart}
-use Rattle.call_sites.specs.Sites.{facts_of, linkage_of, linkage_in, is_call, begins_at, calls_at}
+use Rattle.symbol_table.specs.laws.Records.{records_sound, fields_apart}
+use Rattle.call_sites.specs.Sites.{linkage_of, linkage_in, is_call, begins_at, calls_at}
 
 -- a record of a file
 record IsOf (files : List (List ℕ)) (file : ℕ) (r : RecordId) : Type 0 where
@@ -100,9 +100,11 @@ module _ (files : List (List ℕ)) (file : ℕ) where
 
   in_order_append : (n m : ℕ) (rs qs : List RecordId) → InOrder rs → InOrder qs → Below n rs → Among n m qs → InOrder (rs ++ qs)
   in_order_append n m [] qs first second below among = second
-  in_order_append n m (r ∷ rs) qs first second below among =
-      (first.0, precedes_append r rs qs first.1 (precedes_section n m r qs below.0 among),
-      in_order_append n m rs qs first.2 second below.1 among)
+  in_order_append n m (r ∷ rs) qs first second below among = (
+    first.0,
+    precedes_append r rs qs first.1 (precedes_section n m r qs below.0 among),
+    in_order_append n m rs qs first.2 second below.1 among,
+  )
 
   tables_below : (n : ℕ) → Below n (items_in record_walk file (file_at files file) n)
   tables_below zero = tt

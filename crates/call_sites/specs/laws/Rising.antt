@@ -1,5 +1,5 @@
 -- Lists of which a number of each element is below that of the next.
-use Rattle.std.proofs.Common.{◌≡◌, ◌<◌, ◌≤◌, ◌+◌, ℕ, zero, suc, List, [], ◌∷◌, ◌++◌, length, Option, Some, slice_get, ap, subst, arith}
+use Rattle.std.proofs.Common.{◌≡◌, ◌<◌, ◌≤◌, ◌+◌, ℕ, zero, suc, List, [], ◌∷◌, ◌++◌, length, Some, slice_get, ap, subst, arith}
 
 module _ {X : Type 0} (P : X → Type 0) (n : X → ℕ) where
   -- each element is so, and the numbers rise from one bound on and stay below another

@@ -1,6 +1,6 @@
 -- What each call site of a link has where nothing is refused: what the layout of text and the words of an image need of it.
-use Rattle.std.proofs.Common.{◌≡◌, ◌<◌, ◌≤◌, ◌+◌, ◌%◌, ◌⊎◌, inl, inr, ℕ, Bool, true, false, not, ◌&&◌, eqb, leb, List, length, map, Option, None, Some, slice_get, sym, ap, ◌∙◌, subst, refl, arith, if◌then◌else◌}
-use Rattle.std.specs.Prelude.{◌==◌, nat_le, nat_lt}
+use Rattle.std.proofs.Common.{◌≡◌, ◌<◌, ◌≤◌, ◌+◌, ◌%◌, ◌⊎◌, inl, inr, ℕ, Bool, true, false, not, ◌&&◌, List, length, Option, None, Some, sym, ap, ◌∙◌, subst, refl, arith, if◌then◌else◌}
+use Rattle.std.specs.Prelude.{◌==◌, nat_le}
 use Rattle.std.specs.List.{list_any}
 use Rattle.std.proofs.lemmas.Bool.{and_parts}
 use Rattle.std.proofs.lemmas.Bool.Decides.{nat_tests}
@@ -22,18 +22,17 @@ use Rattle.symbol_table.specs.Sites.{is_relative}
 use Rattle.symbol_table.specs.Text.{text_sections, text_index}
 use Rattle.symbol_table.specs.laws.Prologue.{IsInside, two_entries_inside}
 use Rattle.symbol_table.specs.laws.Records.{IsSoundRecord, records_sound}
-use Rattle.symbol_table.specs.laws.Text.{text_index_within, text_index_found}
+use Rattle.symbol_table.specs.laws.Text.{text_index_within}
 use Rattle.call_sites.specs.declared.class.Callee.{Callee}
 use Rattle.call_sites.specs.declared.class.Linkage.{Linkage}
 use Rattle.call_sites.specs.declared.class.Linkage.TheVariants.{WithToc, WithoutToc}
 use Rattle.call_sites.specs.declared.site.CallSite.{CallSite}
-use Rattle.call_sites.specs.Classes.{class_of, entry_offset}
+use Rattle.call_sites.specs.Classes.{entry_offset}
 use Rattle.call_sites.specs.Refusals.{section_size}
-use Rattle.call_sites.specs.Sites.{text_section, no_section, is_recognised, is_link, has_slot, facts_of, callee_of, call_of_nothing, call_of, call_to, call_target, call_site}
+use Rattle.call_sites.specs.Sites.{text_section, no_section, is_link, has_slot, callee_of, call_to, call_target, call_site}
 use Rattle.call_sites.specs.inside.Calls.{IsCall}
 use Rattle.call_sites.specs.laws.CodePlaces.{IsCodePlace, code_place}
 use Rattle.call_sites.specs.laws.SoundCalls.{IsSoundCall, call_sound}
-use Rattle.call_sites.specs.laws.TextSizes.{text_small}
 use Rattle.call_sites.specs.laws.TextSections.{at_get, section_there}
 
 -- the word behind a call at an offset of a section of a file is a restore slot
@@ -114,10 +113,10 @@ entered files groups f k offset linkage whole s place =
     let size = ap (section_size files) here in
     elim (entry_case linkage callee (nat_le 2 callee.entries) callee.recognised refl refl) [
       | inl none ↦ record {
-          number = place.number;
-          within = omega (arith, none, size, place.within);
-          whole = (let same : offset + entry_offset linkage callee ≡ offset = omega (arith, none) in ap (λ (n : ℕ). n % 4) same ∙ place.aligned);
-        }
+        number = place.number;
+        within = omega (arith, none, size, place.within);
+        whole = (let same : offset + entry_offset linkage callee ≡ offset = omega (arith, none) in ap (λ (n : ℕ). n % 4) same ∙ place.aligned);
+      }
       | inr eight ↦ (
           let known : has_recognised_prologue s.file (file_at files s.file) s.section offset ≡ true =
           subst (λ (t : SectionId). has_recognised_prologue t.file (file_at files t.file) t.section offset ≡ true) here eight.1 in

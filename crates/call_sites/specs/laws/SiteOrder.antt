@@ -1,5 +1,5 @@
 -- Call sites stand in order, no two at one place, and each is sound.
-use Rattle.std.proofs.Common.{◌≡◌, ◌<◌, ◌≤◌, ◌⊎◌, inl, inr, ℕ, zero, suc, ◌+◌, ◌*◌, ◌^◌, Bool, true, false, not, ◌&&◌, eqb,  add-one, List, [], ◌∷◌, ◌++◌, map, filter, take, length, length-append, Option, None, Some, slice_get, sym, ap, ◌∙◌, subst, refl, arith, if◌then◌else◌}
+use Rattle.std.proofs.Common.{◌≡◌, ◌<◌, ◌≤◌, ◌⊎◌, inl, inr, ℕ, zero, suc, ◌+◌, ◌*◌, ◌^◌, Bool, true, false, not, ◌&&◌, eqb, add-one, List, [], ◌∷◌, ◌++◌, map, filter, take, length, length-append, Option, None, Some, slice_get, sym, ap, ◌∙◌, subst, refl, arith, if◌then◌else◌}
 use Rattle.std.specs.List.{All, flat_map, range_with_len, slice_index_or}
 use Rattle.std.proofs.lemmas.Bool.{cases_lt}
 use Rattle.std.proofs.lemmas.List.{append-nil}
@@ -7,7 +7,7 @@ use Rattle.std.proofs.lemmas.List.Concat.{flat_map-append}
 use Rattle.std.proofs.lemmas.List.Elements.{All-filter, filter_passes}
 use Rattle.std.proofs.lemmas.Bool.{and_parts}
 use Rattle.std.proofs.lemmas.Bool.Decides.{nat_tests}
-use Rattle.elf64_records.specs.First.{when, first_in, ◌orelse◌}
+use Rattle.elf64_records.specs.First.{when, first_in}
 use Rattle.elf64_records.specs.laws.First.{both_none}
 use Rattle.elf64_records.specs.FileHeader.{e_shnum}
 use Rattle.elf64_records.specs.Sections.{sh_size}
@@ -33,7 +33,7 @@ use Rattle.call_sites.specs.laws.OneCall.{one_call}
 use Rattle.call_sites.specs.laws.RecordCalls.{unsorted_are}
 use Rattle.call_sites.specs.laws.Rising.{Rises, rises_append, rises_higher, rises_at, rises_next, rises_few}
 use Rattle.call_sites.specs.laws.SiteFacts.{IsSoundSite, StandsAs, site_sound, site_stands}
-use Rattle.call_sites.specs.laws.SoundCalls.{IsSoundCall, call_sound}
+use Rattle.call_sites.specs.laws.SoundCalls.{call_sound}
 use Rattle.call_sites.specs.laws.TextSections.{at_get}
 use Rattle.call_sites.specs.laws.TextSizes.{text_small}
 use Rattle.symbol_table.specs.laws.Text.{IsTextSection, text_index_found}

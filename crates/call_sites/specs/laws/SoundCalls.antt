@@ -3,7 +3,6 @@ use Rattle.std.proofs.Common.{◌≡◌, ◌<◌, ◌≤◌, ◌+◌, ◌%◌, �
 use Rattle.std.specs.Prelude.{is_some}
 use Rattle.elf64_records.specs.FileHeader.{e_shnum}
 use Rattle.elf64_records.specs.Sections.{sh_size}
-use Rattle.elf64_records.specs.Records.{rela_of}
 use Rattle.object_set.specs.declared.places.RecordId.{RecordId}
 use Rattle.object_set.specs.Files.{file_at}
 use Rattle.object_set.specs.Refusals.{set_refusal}
@@ -14,14 +13,14 @@ use Rattle.reloc_fields.specs.declared.kind.Kind.TheVariants as kind
 use Rattle.reloc_fields.specs.Table.{line_of}
 use Rattle.symbol_table.specs.declared.fields.RecordField.{RecordField}
 use Rattle.symbol_table.specs.declared.target.Target.{Target}
-use Rattle.symbol_table.specs.Fields.{kind_numbered, field_of}
+use Rattle.symbol_table.specs.Fields.{field_of}
 use Rattle.symbol_table.specs.Prologue.{word_in}
 use Rattle.symbol_table.specs.Sites.{is_relative}
 use Rattle.symbol_table.specs.Records.{may_call, records_refusal}
 use Rattle.symbol_table.specs.Targets.{target_of}
-use Rattle.symbol_table.specs.laws.Records.{IsSoundRecord, IsSoundField, records_sound}
+use Rattle.symbol_table.specs.laws.Records.{IsSoundField, records_sound}
 use Rattle.symbol_table.specs.laws.Sections.{record_about}
-use Rattle.call_sites.specs.Sites.{facts_of, linkage_of, linkage_in, is_call}
+use Rattle.call_sites.specs.Sites.{facts_of, linkage_of, linkage_in}
 use Rattle.call_sites.specs.inside.Calls.{IsCall}
 
 -- where the call of a field goes: to an instruction, or to a weak symbol that stands for nothing

@@ -1,5 +1,5 @@
 -- What each text section of a link has: what the layout of text asks of it.
-use Rattle.std.proofs.Common.{◌≡◌, ◌<◌, ◌≤◌, ◌%◌, ◌^◌, ℕ, Bool, true, false, max, List, length, None, Some, slice_get, ap, ◌∙◌, refl, arith, if◌then◌else◌}
+use Rattle.std.proofs.Common.{◌≡◌, ◌≤◌, ◌%◌, ℕ, Bool, true, false, max, List, None, Some, slice_get, refl, arith, if◌then◌else◌}
 use Rattle.ppc_bytes.specs.Bytes.{IsPowerOfTwo}
 use Rattle.elf64_records.specs.Sections.{sh_size, sh_addralign}
 use Rattle.object_set.specs.declared.places.SectionId.{SectionId}
@@ -11,7 +11,7 @@ use Rattle.object_set.specs.Sections.{align_of, is_text, is_text_sort, sort_of}
 use Rattle.object_set.specs.laws.Fit.{file_fit, section_fit}
 use Rattle.symbol_table.specs.Text.{text_sections}
 use Rattle.symbol_table.specs.laws.Sections.{text_about}
-use Rattle.symbol_table.specs.laws.Text.{IsTextSection, text_section_at}
+use Rattle.symbol_table.specs.laws.Text.{text_section_at}
 use Rattle.call_sites.specs.laws.TextSizes.{text_small}
 
 -- a text section's size and alignment

@@ -1,15 +1,14 @@
 -- Text sections by their numbers, and places in them.
-use Rattle.std.proofs.Common.{◌≡◌, ◌<◌, ◌≤◌, ◌+◌, ◌^◌, ℕ, zero, suc, Bool, true, false, List, [], ◌∷◌, length, Option, None, Some, slice_get, sym, ap, ◌∙◌, subst, refl, arith, if◌then◌else◌}
+use Rattle.std.proofs.Common.{◌≡◌, ◌<◌, ℕ, zero, suc, Bool, true, false, List, [], ◌∷◌, length, Option, None, Some, slice_get, sym, ap, if◌then◌else◌}
 use Rattle.std.specs.List.{slice_index_or}
 use Rattle.std.specs.Option.{option_map}
 use Rattle.elf64_records.specs.FileHeader.{e_shnum}
-use Rattle.object_set.specs.declared.places.SectionId.{SectionId}
 use Rattle.object_set.specs.declared.places.SymbolId.{SymbolId}
 use Rattle.object_set.specs.Files.{file_at}
 use Rattle.object_set.specs.Sections.{is_text}
 use Rattle.symbol_table.specs.Resolved.{pair_of}
 use Rattle.symbol_table.specs.Text.{text_sections, text_index, text_number}
-use Rattle.symbol_table.specs.laws.Text.{text_index_found, text_index_within}
+use Rattle.symbol_table.specs.laws.Text.{text_index_found}
 use Rattle.call_sites.specs.Sites.{text_section, no_section}
 
 module _ {X : Type 0} where

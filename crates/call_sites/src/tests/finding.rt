@@ -85,20 +85,65 @@ fn each_line_of_the_table_of_classes(rt: HostRuntime) -> Result<(), Fail> {
 
 /// Words, symbols, records, and what comes of them: a call at the front goes to `f`, which may change r2 or leaves it alone.
 const SLOTS: [(&str, &str, &str, &str); 9] = [
-    ("48000001 60000000 4E800020", "f 10 20 1 8; _start 10 20 1 0", "0 10 1 0", "0 0 Some(Save) 1 8 0 8 true true;"),
+    (
+        "48000001 60000000 4E800020",
+        "f 10 20 1 8; _start 10 20 1 0",
+        "0 10 1 0",
+        "0 0 Some(Save) 1 8 0 8 true true;",
+    ),
     // no nop, no link, and a nop that another record fills
-    ("48000001 4E800020 4E800020", "f 10 20 1 8; _start 10 20 1 0", "0 10 1 0", "no restore at 0"),
-    ("48000000 60000000 4E800020", "f 10 20 1 8; _start 10 20 1 0", "0 10 1 0", "no restore at 0"),
-    ("48000001 60000000 4E800020", "f 10 20 1 8; _start 10 20 1 0", "0 10 1 0; 4 1 1 0", "no restore at 0"),
+    (
+        "48000001 4E800020 4E800020",
+        "f 10 20 1 8; _start 10 20 1 0",
+        "0 10 1 0",
+        "no restore at 0",
+    ),
+    (
+        "48000000 60000000 4E800020",
+        "f 10 20 1 8; _start 10 20 1 0",
+        "0 10 1 0",
+        "no restore at 0",
+    ),
+    (
+        "48000001 60000000 4E800020",
+        "f 10 20 1 8; _start 10 20 1 0",
+        "0 10 1 0; 4 1 1 0",
+        "no restore at 0",
+    ),
     // a record without bytes fills nothing
-    ("48000001 60000000 4E800020", "f 10 20 1 8; _start 10 20 1 0", "0 10 1 0; 4 0 0 0", "0 0 Some(Save) 1 8 0 8 true true;"),
+    (
+        "48000001 60000000 4E800020",
+        "f 10 20 1 8; _start 10 20 1 0",
+        "0 10 1 0; 4 0 0 0",
+        "0 0 Some(Save) 1 8 0 8 true true;",
+    ),
     // where r2 stays no slot is needed
-    ("48000001 4E800020 4E800020", "f 10 0 1 8; _start 10 20 1 0", "0 10 1 0", "0 0 Some(Same) 0 8 0 8 false false;"),
-    ("48000001 60000000 4E800020", "f 10 0 1 8; _start 10 20 1 0", "0 10 1 0; 4 1 1 0", "0 0 Some(Same) 0 8 0 8 false false;"),
+    (
+        "48000001 4E800020 4E800020",
+        "f 10 0 1 8; _start 10 20 1 0",
+        "0 10 1 0",
+        "0 0 Some(Same) 0 8 0 8 false false;",
+    ),
+    (
+        "48000001 60000000 4E800020",
+        "f 10 0 1 8; _start 10 20 1 0",
+        "0 10 1 0; 4 1 1 0",
+        "0 0 Some(Same) 0 8 0 8 false false;",
+    ),
     // the last word of its section has none behind it
-    ("4E800020 48000001", "f 10 20 1 0; _start 10 20 1 4", "4 10 1 0", "no restore at 4"),
+    (
+        "4E800020 48000001",
+        "f 10 20 1 0; _start 10 20 1 4",
+        "4 10 1 0",
+        "no restore at 4",
+    ),
     // of two such calls the first in site order is told
-    ("48000001 4E800020 48000001 4E800020", "f 10 20 1 12; _start 10 20 1 0", "8 10 1 0; 0 10 1 0", "no restore at 0"),
+    (
+        "48000001 4E800020 48000001 4E800020",
+        "f 10 20 1 12; _start 10 20 1 0",
+        "8 10 1 0; 0 10 1 0",
+        "no restore at 0",
+    ),
 ];
 
 #[test]

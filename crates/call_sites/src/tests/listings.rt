@@ -143,12 +143,7 @@ pub fn found(
 }
 
 /// Whether an offset of a text section of files has a recognised prologue.
-pub fn recognised(
-    alloc: Global,
-    files: &[File],
-    section: u32,
-    offset: u64,
-) -> Result<bool, Fail> {
+pub fn recognised(alloc: Global, files: &[File], section: u32, offset: u64) -> Result<bool, Fail> {
     let list = files_of(alloc, files)?;
     let list = list.as_slice();
     if list.len() > 4096 {
@@ -168,6 +163,16 @@ pub fn recognised(
 
 /// A site as a line: where it stands, its class, e, its callee, where it goes, and whether it has a slot and r2 is restored there.
 pub fn line_of(alloc: Global, site: &CallSite) -> Result<String, AllocError> {
-    format!(in alloc; "{} {} {:?} {} {} {} {} {} {}", site.section, site.offset, site.class, site.e, site.callee, site.to_section,
-        site.to_offset, site.slot, site.restore)
+    format!(in alloc;
+        "{} {} {:?} {} {} {} {} {} {}",
+        site.section,
+        site.offset,
+        site.class,
+        site.e,
+        site.callee,
+        site.to_section,
+        site.to_offset,
+        site.slot,
+        site.restore
+    )
 }

@@ -1,7 +1,6 @@
 -- view-requires, symbol_entry-requires: a definition is a symbol of one of the files. returns-in-Some: its entry points.
-use Rattle.std.proofs.Common.{◌≡◌, ◌<◌, ◌/◌, ℕ, List, length, Option, Some, sym, ap, ◌∙◌, subst}
+use Rattle.std.proofs.Common.{◌<◌, ◌/◌, ℕ, List, length, sym, ap, ◌∙◌, subst}
 use Rattle.elf64_records.specs.Symbols.{symbol_count, st_other}
-use Rattle.object_set.specs.declared.places.SymbolId.{SymbolId}
 use Rattle.object_set.specs.Files.{file_at}
 use Rattle.symbol_table.specs.Targets.{definition_of}
 use Rattle.symbol_table.specs.laws.Targets.{symbol_definition}

@@ -1,9 +1,9 @@
 -- loop-file-preserved: those of one file more. returns: those of all files.
-use Rattle.std.proofs.Common.{◌≡◌, ◌∷◌, [], ◌++◌, ◌+◌, ℕ, List, length, map, sym, ap, ◌∙◌, arith}
+use Rattle.std.proofs.Common.{◌≡◌, ◌∷◌, [], ◌++◌, List, map, arith}
 use Rattle.std.specs.List.{range_with_len}
 use Rattle.std.proofs.lemmas.List.FromFn.{map-range_with_len_more}
 use Rattle.symbol_table.specs.inside.Fields.{FileOf}
-use Rattle.call_sites.specs.inside.Ready.{file_of, files_of}
+use Rattle.call_sites.specs.inside.Ready.{file_of}
 use Rattle.call_sites.proofs.callees.prologues_of.Goals as goal
 
 pub loop-file-preserved : goal.loop-file-preserved

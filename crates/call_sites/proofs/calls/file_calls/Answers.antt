@@ -1,6 +1,5 @@
 -- returns: the calls in order are those at each offset of each section, and are calls of the set.
-use Rattle.std.proofs.Common.{List, ℕ, subst}
-use Rattle.object_set.specs.Files.{file_at}
+use Rattle.std.proofs.Common.{List, subst}
 use Rattle.symbol_table.specs.declared.fields.RecordField.{RecordField}
 use Rattle.call_sites.specs.inside.Calls.{IsInOrder}
 use Rattle.call_sites.proofs.FileCalls.{sorted_calls, sorted_are}

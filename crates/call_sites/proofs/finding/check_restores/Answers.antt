@@ -1,6 +1,6 @@
 -- loop-site-preserved: a site passes. returns-then-not-site: a site doesn't.
-use Rattle.std.proofs.Common.{rules, arith, true, ◌≡◌, sym}
-use Rattle.call_sites.proofs.SitesLeft.{site_passes, site_stops}
+use Rattle.std.proofs.Common.{rules}
+use Rattle.call_sites.proofs.SitesLeft.{site_stops}
 use Rattle.call_sites.proofs.finding.check_restores.Goals as goal
 
 pub returns-then-not-site : goal.returns-then-not-site

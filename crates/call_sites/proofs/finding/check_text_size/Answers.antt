@@ -1,5 +1,5 @@
 -- returns-then-size-total: the sections so far and this one are too much already.
-use Rattle.std.proofs.Common.{◌≡◌, ◌<◌, ℕ, true, ltb, List, sym, ap, ◌∙◌, arith}
+use Rattle.std.proofs.Common.{◌≡◌, ◌<◌, ℕ, List, ap, ◌∙◌, arith}
 use Rattle.std.proofs.lemmas.List.Sums.{sum_by_more_le}
 use Rattle.elf64_records.specs.First.{when}
 use Rattle.elf64_records.specs.Sections.{sh_size}

@@ -1,5 +1,5 @@
 -- invariant_of-result: there are no more sites than bytes of text.
-use Rattle.std.proofs.Common.{◌≡◌, ◌≤◌, Bool, true, false, ltb, List, length, Option, None, sym, ap, ◌∙◌, refl, arith}
+use Rattle.std.proofs.Common.{◌≡◌, ◌≤◌, Bool, true, false, ltb, List, length, None, sym, ap, ◌∙◌, refl, arith}
 use Rattle.std.proofs.lemmas.Bool.Decides.{nat_tests}
 use Rattle.elf64_records.specs.First.{when}
 use Rattle.object_set.specs.Refusals.{set_refusal}

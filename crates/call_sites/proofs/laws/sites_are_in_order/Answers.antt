@@ -1,5 +1,5 @@
 -- returns: fields that stand in order, no two at one place.
-use Rattle.std.proofs.Common.{◌≡◌, ◌∙◌, ap, Some, slice_get, add-one, sym}
+use Rattle.std.proofs.Common.{◌∙◌, ap, slice_get, add-one, sym}
 use Rattle.call_sites.specs.Sites.{call_sites}
 use Rattle.call_sites.specs.laws.SiteOrder.{sites_in_order}
 use Rattle.call_sites.proofs.laws.sites_are_in_order.Goals as goal

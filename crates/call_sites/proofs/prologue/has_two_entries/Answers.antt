@@ -1,5 +1,5 @@
 -- loop-j-preserved: a symbol doesn't stand there. returns-then-stands_at: one does.
-use Rattle.std.proofs.Common.{◌≡◌, ◌<◌, ℕ, sym, ap, ◌∙◌, arith}
+use Rattle.std.proofs.Common.{sym, ap, ◌∙◌, arith}
 use Rattle.elf64_records.specs.Symbols.{symbol_count}
 use Rattle.object_set.specs.Files.{file_at}
 use Rattle.symbol_table.specs.Prologue.{stands_at}

@@ -1,5 +1,5 @@
 -- is_form-requires: the words of a prologue lie in its section.
-use Rattle.std.proofs.Common.{◌≡◌, ◌<◌, ◌≤◌, ◌+◌, ℕ, true, List, length, None, sym, ap, ◌∙◌, arith}
+use Rattle.std.proofs.Common.{◌≡◌, ℕ, true, List, length, None, sym, ap, ◌∙◌, arith}
 use Rattle.elf64_records.specs.Sections.{section_bytes}
 use Rattle.object_set.specs.Files.{file_at}
 use Rattle.object_set.specs.Refusals.{set_refusal}

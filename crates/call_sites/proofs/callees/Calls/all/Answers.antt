@@ -1,5 +1,5 @@
 -- loop-file-preserved: the sites of one file more. returns: those of all files.
-use Rattle.std.proofs.Common.{◌≡◌, ◌++◌, ◌+◌, ℕ, List, length, map, sym, ap, ◌∙◌, arith, add-one}
+use Rattle.std.proofs.Common.{◌++◌, ℕ, List, map, sym, ap, ◌∙◌, add-one}
 use Rattle.std.proofs.lemmas.List.{map-append}
 use Rattle.object_set.specs.Files.{file_at}
 use Rattle.object_set.specs.Walks.{items_before}

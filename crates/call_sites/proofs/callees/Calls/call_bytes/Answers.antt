@@ -1,8 +1,5 @@
 -- returns: the bytes of a text section are as many as its header says, and the call's word lies in it.
-use Rattle.std.proofs.Common.{◌≡◌, ◌≤◌, ℕ, List, length, sym, ap, ◌∙◌, subst, arith}
-use Rattle.object_set.specs.Files.{file_at}
-use Rattle.object_set.specs.declared.places.SectionId.{SectionId}
-use Rattle.call_sites.specs.laws.SoundCalls.{IsSoundCall, call_sound}
+use Rattle.std.proofs.Common.{length, ap, ◌∙◌, arith}
 use Rattle.call_sites.specs.laws.TextSizes.{text_whole}
 use Rattle.call_sites.specs.inside.Ready.{bytes_of}
 use Rattle.call_sites.proofs.callees.Calls.call_bytes.Goals as goal

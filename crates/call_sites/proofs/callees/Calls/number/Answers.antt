@@ -1,7 +1,5 @@
 -- A call stands in text, so that its section has a number, at which the section stands among text sections.
-use Rattle.std.proofs.Common.{◌≡◌, ◌<◌, ℕ, List, length, Some, None, sym, ap, ◌∙◌, subst}
-use Rattle.elf64_records.specs.FileHeader.{e_shnum}
-use Rattle.object_set.specs.Files.{file_at}
+use Rattle.std.proofs.Common.{◌<◌, ℕ, List, length, sym, ap, ◌∙◌, subst}
 use Rattle.symbol_table.specs.Text.{text_sections}
 use Rattle.symbol_table.specs.laws.Text.{text_index_within}
 use Rattle.call_sites.specs.Sites.{text_section}

@@ -1,5 +1,5 @@
 -- index-requires, returns: there is one for each file.
-use Rattle.std.proofs.Common.{◌≡◌, ◌∙◌, List, ℕ, length, sym, ap, arith, subst}
+use Rattle.std.proofs.Common.{◌∙◌, List, ℕ, length, ap, arith}
 use Rattle.call_sites.specs.inside.Ready.{GroupedFiles, file_of}
 use Rattle.call_sites.proofs.ReadyFiles.{as_many, kept_at}
 use Rattle.call_sites.proofs.callees.Calls.prologues.Goals as goal

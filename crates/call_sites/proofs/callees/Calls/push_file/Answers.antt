@@ -1,5 +1,5 @@
 -- returns: the sites of all calls of the file.
-use Rattle.std.proofs.Common.{◌≡◌, ◌++◌, ◌≤◌, ℕ, List, length, map, take, sym, ap, ◌∙◌, arith}
+use Rattle.std.proofs.Common.{◌≡◌, ◌++◌, ℕ, List, map, take, ap, ◌∙◌}
 use Rattle.std.proofs.lemmas.List.{take_all}
 use Rattle.object_set.specs.Files.{file_at}
 use Rattle.symbol_table.specs.declared.fields.RecordField.{RecordField}

@@ -1,8 +1,5 @@
 -- returns: the site of a call that goes where its record goes.
-use Rattle.std.proofs.Common.{◌≡◌, ◌⊎◌, inl, inr, Some, sym, ap, ◌∙◌}
-use Rattle.symbol_table.specs.declared.target.Target.{Target}
-use Rattle.symbol_table.specs.declared.target.Target.TheVariants as target
-use Rattle.call_sites.specs.declared.class.Callee.{Callee}
+use Rattle.std.proofs.Common.{inl, inr, Some, sym, ap, ◌∙◌}
 use Rattle.call_sites.specs.Sites.{call_site, call_to, call_of}
 use Rattle.call_sites.proofs.callees.Calls.site.Goals as goal
 
@@ -24,10 +21,10 @@ returns-in-Data c =
     elim c.in-Data.is [
       | inl data_place ↦ nothing ∙ ap to (sym (goes ∙ ap Some data_place.2))
       | inr rest ↦ elim rest [
-          | inl number ↦ nothing ∙ ap to (sym (goes ∙ ap Some number.1))
-          | inr others ↦ elim others [
-              | inl base ↦ nothing ∙ ap to (sym (goes ∙ ap Some base.2))
-              | inr weak ↦ nothing ∙ ap to (sym (goes ∙ ap Some weak.1))
-            ]
+        | inl number ↦ nothing ∙ ap to (sym (goes ∙ ap Some number.1))
+        | inr others ↦ elim others [
+          | inl base ↦ nothing ∙ ap to (sym (goes ∙ ap Some base.2))
+          | inr weak ↦ nothing ∙ ap to (sym (goes ∙ ap Some weak.1))
         ]
+      ]
     ]
