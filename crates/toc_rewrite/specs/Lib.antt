@@ -1,0 +1,4 @@
+pub mod Words
+pub mod Laid
+pub mod Records
+pub mod inside
