@@ -1,4 +1,5 @@
 pub mod Words
 pub mod Laid
 pub mod Records
+pub mod Folds
 pub mod inside

@@ -3,6 +3,8 @@
 #![tactic(auto)]
 
 mod laid;
+mod orderly;
+mod records;
 mod words;
 
 pub use words::fold_word;

@@ -8,6 +8,7 @@ use Rattle.symbol_table.specs.declared.target.Target.{Target}
 use Rattle.symbol_table.specs.declared.target.Target.TheVariants.{Data, Code, Number, TocBase, WeakNone}
 use Rattle.symbol_table.specs.Records.{records_refusal}
 use Rattle.toc_rewrite.specs.declared.laid.Firsts.{Firsts}
+use Rattle.symbol_table.specs.inside.Fields.{FileOf}
 use Rattle.toc_rewrite.specs.Laid.{LaidFiles, HasAddresses}
 
 abbrev pub laid_files : List (List ℕ) → List ℕ → List ℕ → LaidFiles
@@ -36,3 +37,8 @@ IsTargetOf files (Code section offset) = Unit {0}
 IsTargetOf files (Number n) = Unit {0}
 IsTargetOf files (TocBase file addend) = file < length files
 IsTargetOf files (WeakNone addend) = Unit {0}
+
+-- a file of these files
+pub record IsFileOf (of : FileOf) (files : List (List ℕ)) (file : ℕ) : Type 0 where
+  pub files_are : of.files ≡ files
+  pub file_is : of.file ≡ file
