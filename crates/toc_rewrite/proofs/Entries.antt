@@ -30,13 +30,17 @@ module _ (test : RecordId → Bool) (file : ℕ) (b : List ℕ) where
       ]
 
   -- one record more
+  pub entry_next : (i n : ℕ) → list_any test (records_in file b i n) ≡ false → test (record_id file b i n) ≡ false →
+      list_any test (records_in file b i (suc n)) ≡ false
+  entry_next i n before this =
+      list_any-append test (records_in file b i n) (record_id file b i n ∷ [])
+      ∙ ap (λ (x : Bool). x || list_any test (record_id file b i n ∷ [])) before
+      ∙ or_none (test (record_id file b i n)) ∙ this
+
   pub entry_more : (i n : ℕ) → list_any test (records_in file b i n) ≡ false → test (record_id file b i n) ≡ false →
       list_any test (records_in file b i (n + 1)) ≡ false
   entry_more i n before this =
-      ap (λ (m : ℕ). list_any test (records_in file b i m)) (add-one n)
-      ∙ list_any-append test (records_in file b i n) (record_id file b i n ∷ [])
-      ∙ ap (λ (x : Bool). x || list_any test (record_id file b i n ∷ [])) before
-      ∙ or_none (test (record_id file b i n)) ∙ this
+      ap (λ (m : ℕ). list_any test (records_in file b i m)) (add-one n) ∙ entry_next i n before this
 
   pub table_passes : (i n : ℕ) → i < n → list_any test (records_in file b i (record_count b i)) ≡ true →
       list_any test (items_in record_walk file b n) ≡ true
@@ -54,12 +58,16 @@ module _ (test : RecordId → Bool) (file : ℕ) (b : List ℕ) where
       ]
 
   -- one section more
+  pub table_next : (n : ℕ) → list_any test (items_in record_walk file b n) ≡ false →
+      list_any test (records_in file b n (record_count b n)) ≡ false → list_any test (items_in record_walk file b (suc n)) ≡ false
+  table_next n before this =
+      list_any-append test (items_in record_walk file b n) (records_in file b n (record_count b n))
+      ∙ ap (λ (x : Bool). x || list_any test (records_in file b n (record_count b n))) before ∙ this
+
   pub table_more : (n : ℕ) → list_any test (items_in record_walk file b n) ≡ false →
       list_any test (records_in file b n (record_count b n)) ≡ false → list_any test (items_in record_walk file b (n + 1)) ≡ false
   table_more n before this =
-      ap (λ (m : ℕ). list_any test (items_in record_walk file b m)) (add-one n)
-      ∙ list_any-append test (items_in record_walk file b n) (records_in file b n (record_count b n))
-      ∙ ap (λ (x : Bool). x || list_any test (records_in file b n (record_count b n))) before ∙ this
+      ap (λ (m : ℕ). list_any test (items_in record_walk file b m)) (add-one n) ∙ table_next n before this
 
 -- the two answers of a test
 pub not_true : (b : Bool) → not b ≡ true → b ≡ false

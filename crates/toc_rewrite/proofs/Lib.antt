@@ -1,3 +1,9 @@
 pub mod Sections
 pub mod SoundRecords
 pub mod Entries
+pub mod Windows
+pub mod FoundRecords
+pub mod NeededSlots
+pub mod SlotPlaces
+pub mod LoneFields
+pub mod KeptSlots

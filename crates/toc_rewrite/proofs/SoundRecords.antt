@@ -90,7 +90,7 @@ word_lies files r kind whole none is known user =
 toc_stored : (sort : Sort) → is_toc_sort sort ≡ true → sort ≢ Zeroed
 toc_stored = elim [ Toc ↦ λ toc zeroed. cc | _ ↦ λ toc. cc ]
 
-address_kind : (o : Option Kind) → is_address o ≡ true → o ≡ Some Addr64
+pub address_kind : (o : Option Kind) → is_address o ≡ true → o ≡ Some Addr64
 address_kind None is = cc
 address_kind (Some kind) is = elim kind as (λ k. is_address (Some k) ≡ true → Some k ≡ Some Addr64) [ Addr64 ↦ λ _. refl | _ ↦ λ no_address. cc ] is
 

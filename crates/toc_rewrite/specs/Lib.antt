@@ -2,4 +2,5 @@ pub mod Words
 pub mod Laid
 pub mod Records
 pub mod Folds
+pub mod Folded
 pub mod inside

@@ -2,9 +2,13 @@
 // the address that the slot holds, and which words the rewriting gives.
 #![tactic(auto)]
 
+mod folds;
+mod found;
 mod laid;
 mod orderly;
 mod records;
+mod uses;
 mod words;
 
+pub use folds::{Folds, foldable};
 pub use words::fold_word;
