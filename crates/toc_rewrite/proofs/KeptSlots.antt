@@ -26,9 +26,9 @@ use Rattle.toc_rewrite.specs.declared.uses.SlotUse.{SlotUse}
 use Rattle.toc_rewrite.specs.Laid.{LaidFiles, HasAddresses, base_of}
 use Rattle.toc_rewrite.specs.Records.{facts_of, kind_of, record_target, all_records}
 use Rattle.toc_rewrite.specs.Folds.{is_orderly, is_address, is_toc_sort, fills_slot, fills_alone, reaches, slot_address, needs_slot, fills_foldable, slot_records, fills_at, is_foldable}
-use Rattle.toc_rewrite.specs.Folded.{FoldedSlots, is_slot_at, folded_in, AreFolds}
+use Rattle.toc_rewrite.specs.Folded.{FoldedSlots, slot_of, is_slot_at, folded_in, AreFolds}
 use Rattle.toc_rewrite.specs.inside.Uses.{use_of, is_below, is_above}
-use Rattle.toc_rewrite.specs.inside.Slots.{slot_of, is_candidate, candidate_of, IsLowSlot, is_free}
+use Rattle.toc_rewrite.specs.inside.Slots.{is_candidate, candidate_of, IsLowSlot, is_free}
 use Rattle.toc_rewrite.proofs.LoneFields.{address_alone}
 use Rattle.toc_rewrite.proofs.NeededSlots.{kept_needed}
 use Rattle.toc_rewrite.proofs.Sections.{mapped_at}
@@ -202,12 +202,13 @@ module _ (laid : LaidFiles) (whole : set_refusal laid.files ≡ None) (few : len
       (free_case orderly uses judged same)
 
 -- the foldable slots in another order
-pub sorted_folds : (laid : LaidFiles) (orderly : List Bool) (free slots named : List Slot) →
+pub sorted_folds : (laid : LaidFiles) (orderly : List Bool) (free slots : List Slot) →
     orderly ≡ map (is_orderly laid.files) (range_with_len 0 (length laid.files)) →
     free ≡ map (slot_of laid) (slot_records laid) → IsPermutation free slots →
-    AreFolds laid (record { orderly = orderly; slots = slots; named = named })
-sorted_folds laid orderly free slots named judged are same = record {
+    AreFolds laid (record { orderly = orderly; slots = slots })
+sorted_folds laid orderly free slots judged are same = record {
   orderly = judged;
+  slots = subst (λ (l : List Slot). IsPermutation l slots) are same;
   count = length_permutation free slots same ∙ ap length are ∙ length-map (slot_records laid) (slot_of laid);
   folded = λ file section offset.
       sym (list_any-IsPermutation (is_slot_at file section offset) free slots same)

@@ -1,66 +1,89 @@
--- Slots in order of their places.
-use Rattle.std.proofs.Common.{◌≡◌, ◌<◌, ◌≤◌, ℕ, ◌+◌, ◌*◌, ◌^◌, Bool, true, false, ◌&&◌, eqb, List, length, sym, ap, ◌∙◌, subst, refl, arith, inl, inr}
+-- What is looked up among slots in order of their places, or of their addresses.
+use Rattle.std.proofs.Common.{◌≡◌, ◌<◌, ◌≤◌, ◌⊎◌, ℕ, ◌+◌, ◌*◌, ◌^◌, Bool, true, false, ◌&&◌, eqb, List, length, sym, ap, ◌∙◌, subst, refl, arith, inl, inr}
 use Rattle.std.specs.List.{list_any, slice_index_or}
 use Rattle.std.specs.List.Sorted.{IsNonDecreasingBy}
 use Rattle.std.proofs.lemmas.Bool.{cases_lt}
 use Rattle.std.proofs.lemmas.Bool.Decides.{nat_tests}
 use Rattle.std.proofs.lemmas.List.Folds.{list_any_at, list_any_none}
 use Rattle.toc_rewrite.specs.declared.found.Slot.{Slot}
-use Rattle.toc_rewrite.specs.Folded.{is_slot_at}
-use Rattle.toc_rewrite.specs.inside.Slots.{slot_rank}
+use Rattle.toc_rewrite.specs.Folded.{is_slot_at, is_slot_named}
+use Rattle.toc_rewrite.specs.inside.Slots.{slot_rank, name_rank}
+
+-- elements of which those that pass a test have one rank, in order; the first ones have less
+module _ {X : Type 0} (rank : X → ℕ) (test : X → Bool) (t : ℕ) (exact : (x : X) → test x ≡ true → rank x ≡ t)
+    (xs : List X) (next : ℕ) (before : (k : ℕ) (d : X) → k < next → rank (slice_index_or xs k d) < t) where
+  other : (x : X) (b : Bool) → test x ≡ b → (rank x < t) ⊎ (t < rank x) → b ≡ false
+  other x false is far = refl
+  other x true is (inl less) = let here = exact x is in absurd (omega (arith, here, less))
+  other x true is (inr more) = let here = exact x is in absurd (omega (arith, here, more))
+
+  -- none passes where all have less
+  pub none_there : length xs ≤ next → list_any test xs ≡ false
+  none_there past =
+      list_any_none test xs
+      (λ k d within. let x = slice_index_or xs k d in other x (test x) refl (inl (before k d (omega arith))))
+
+  found_case : (x : X) (is : Bool) → test x ≡ is → IsNonDecreasingBy rank xs → next < length xs →
+      ((d : X) → x ≡ slice_index_or xs next d) → (rank x ≡ t → test x ≡ true) → t ≤ rank x → is ≡ list_any test xs
+  found_case x true passes sorted within here own after =
+      sym (list_any_at test xs next x within (ap test (sym (here x)) ∙ passes))
+  found_case x false fails sorted within here own after =
+      let far : t < rank x = elim (cases_lt t (rank x)) [
+        | inl less ↦ less
+        | inr most ↦ (let passes = own (omega (arith, most, after)) in let none : true ≡ false = sym passes ∙ fails in cc)
+      ] in
+      sym (list_any_none test xs
+      (λ k d inside. let y = slice_index_or xs k d in
+      elim (cases_lt k next) [
+        | inl less ↦ other y (test y) refl (inl (before k d less))
+        | inr most ↦ (
+            let up : rank (slice_index_or xs next d) ≤ rank y = sorted next k d most inside in
+            let past : rank x ≤ rank y = subst (λ (z : X). rank z ≤ rank y) (sym (here d)) up in
+            other y (test y) refl (inr (omega (arith, far, past))))
+      ]))
+
+  -- the first one that doesn't have less tells whether one passes
+  pub first_there : (x : X) → IsNonDecreasingBy rank xs → next < length xs → ((d : X) → x ≡ slice_index_or xs next d) →
+      (rank x ≡ t → test x ≡ true) → t ≤ rank x → test x ≡ list_any test xs
+  first_there x sorted within here own after = found_case x (test x) refl sorted within here own after
 
 -- the rank of a place
 abbrev pub rank_at : ℕ → ℕ → ℕ → ℕ
 rank_at file section offset = (file * 2 ^ 32 + section) * 2 ^ 64 + offset
 
--- slots of another rank lie elsewhere
-elsewhere : (f i o file section offset : ℕ) → (f * 2 ^ 32 + i) * 2 ^ 64 + o < (file * 2 ^ 32 + section) * 2 ^ 64 + offset →
-    (eqb f file && eqb i section && eqb o offset) ≡ false
-elsewhere f i o file section offset less = grind (arith, nat_tests)
+pub place_exact : (file section offset : ℕ) (s : Slot) → is_slot_at file section offset s ≡ true → slot_rank s ≡ rank_at file section offset
+place_exact file section offset s is = grind (arith, nat_tests, is)
 
-behind : (f i o file section offset : ℕ) → (file * 2 ^ 32 + section) * 2 ^ 64 + offset < (f * 2 ^ 32 + i) * 2 ^ 64 + o →
-    (eqb f file && eqb i section && eqb o offset) ≡ false
-behind f i o file section offset less = grind (arith, nat_tests)
+place_case : (f i o file section offset : ℕ) → i < 2 ^ 32 → o < 2 ^ 64 → section < 2 ^ 32 → offset < 2 ^ 64 →
+    (f * 2 ^ 32 + i) * 2 ^ 64 + o ≡ (file * 2 ^ 32 + section) * 2 ^ 64 + offset → (eqb f file && eqb i section && eqb o offset) ≡ true
+place_case f i o file section offset fits_i fits_o fits_section fits_offset same =
+    let a : f ≡ file = omega arith in
+    let b : i ≡ section = omega arith in
+    let c : o ≡ offset = omega arith in
+    grind (arith, nat_tests)
 
--- of those that don't come before a place, one that lies elsewhere comes behind it
-further : (f i o file section offset : ℕ) → i < 2 ^ 32 → o < 2 ^ 64 → section < 2 ^ 32 → offset < 2 ^ 64 →
-    (eqb f file && eqb i section && eqb o offset) ≡ false →
-    (file * 2 ^ 32 + section) * 2 ^ 64 + offset ≤ (f * 2 ^ 32 + i) * 2 ^ 64 + o →
-    (file * 2 ^ 32 + section) * 2 ^ 64 + offset < (f * 2 ^ 32 + i) * 2 ^ 64 + o
-further f i o file section offset fits_i fits_o fits_section fits_offset other after = grind (arith, nat_tests)
+pub place_own : (file section offset : ℕ) (s : Slot) → s.id.section < 2 ^ 32 → s.offset < 2 ^ 64 → section < 2 ^ 32 → offset < 2 ^ 64 →
+    slot_rank s ≡ rank_at file section offset → is_slot_at file section offset s ≡ true
+place_own file section offset s fits_i fits_o fits_section fits_offset same =
+    place_case s.id.file s.id.section s.offset file section offset fits_i fits_o fits_section fits_offset same
 
-module _ (slots : List Slot) (file section offset next : ℕ)
-    (before : (k : ℕ) (d : Slot) → k < next → slot_rank (slice_index_or slots k d) < rank_at file section offset) where
-  -- no slot lies there where all come before
-  pub none_there : length slots ≤ next → list_any (is_slot_at file section offset) slots ≡ false
-  none_there past =
-      list_any_none (is_slot_at file section offset) slots
-      (λ k d within. let s = slice_index_or slots k d in
-      elsewhere s.id.file s.id.section s.offset file section offset (before k d (omega arith)))
+-- the rank of an address
+abbrev pub named_at : ℕ → ℕ → ℕ
+named_at file number = file * 2 ^ 64 + number
 
-  found_case : (s : Slot) (is : Bool) → is_slot_at file section offset s ≡ is → IsNonDecreasingBy slot_rank slots →
-      next < length slots → ((d : Slot) → s ≡ slice_index_or slots next d) → s.id.section < 2 ^ 32 → s.offset < 2 ^ 64 →
-      section < 2 ^ 32 → offset < 2 ^ 64 → rank_at file section offset ≤ slot_rank s →
-      is ≡ list_any (is_slot_at file section offset) slots
-  found_case s true test sorted within here fits_i fits_o fits_section fits_offset after =
-      sym (list_any_at (is_slot_at file section offset) slots next s within
-      (ap (is_slot_at file section offset) (sym (here s)) ∙ test))
-  found_case s false test sorted within here fits_i fits_o fits_section fits_offset after =
-      let far = further s.id.file s.id.section s.offset file section offset fits_i fits_o fits_section fits_offset test after in
-      sym (list_any_none (is_slot_at file section offset) slots
-      (λ k d inside. let t = slice_index_or slots k d in
-      elim (cases_lt k next) [
-        | inl less ↦ elsewhere t.id.file t.id.section t.offset file section offset (before k d less)
-        | inr most ↦ (
-            let up : slot_rank (slice_index_or slots next d) ≤ slot_rank t = sorted next k d most inside in
-            let past : slot_rank s ≤ slot_rank t = subst (λ (x : Slot). slot_rank x ≤ slot_rank t) (sym (here d)) up in
-            behind t.id.file t.id.section t.offset file section offset (omega (arith, far, past)))
-      ]))
+pub name_exact : (file number : ℕ) (s : Slot) → is_slot_named file number s ≡ true → name_rank s ≡ named_at file number
+name_exact file number s is = grind (arith, nat_tests, is)
 
-  -- the first one that doesn't tells whether one does
-  pub first_there : (s : Slot) → IsNonDecreasingBy slot_rank slots → next < length slots →
-      ((d : Slot) → s ≡ slice_index_or slots next d) → s.id.section < 2 ^ 32 → s.offset < 2 ^ 64 →
-      section < 2 ^ 32 → offset < 2 ^ 64 → rank_at file section offset ≤ slot_rank s →
-      is_slot_at file section offset s ≡ list_any (is_slot_at file section offset) slots
-  first_there s sorted within here fits_i fits_o fits_section fits_offset after =
-      found_case s (is_slot_at file section offset s) refl sorted within here fits_i fits_o fits_section fits_offset after
+name_case : (f a file number : ℕ) → a < 2 ^ 64 → number < 2 ^ 64 → f * 2 ^ 64 + a ≡ file * 2 ^ 64 + number →
+    (eqb f file && eqb a number) ≡ true
+name_case f a file number fits fits_number same =
+    let b : f ≡ file = omega arith in
+    let c : a ≡ number = omega arith in
+    grind (arith, nat_tests)
+
+pub name_own : (file number : ℕ) (s : Slot) → s.address < 2 ^ 64 → number < 2 ^ 64 → name_rank s ≡ named_at file number →
+    is_slot_named file number s ≡ true
+name_own file number s fits fits_number same = name_case s.id.file s.address file number fits fits_number same
+
+pub name_parts : (file number : ℕ) (s : Slot) → is_slot_named file number s ≡ true → (s.id.file ≡ file) × (s.address ≡ number)
+name_parts file number s is = (grind (arith, nat_tests, is), grind (arith, nat_tests, is))

@@ -3,4 +3,5 @@ pub mod Laid
 pub mod Records
 pub mod Folds
 pub mod Folded
+pub mod Uses
 pub mod inside

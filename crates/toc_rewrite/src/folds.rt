@@ -1,13 +1,13 @@
 // The foldable slots of files.
-ghost use Rattle.std.specs.Prelude.{◌≡◌, ◌<◌, ◌≤◌, ◌+◌, ◌^◌, ◌&&◌, ℕ, None, Some, not, All, IfOk, length, filter, slice_get, nat_lt};
+ghost use Rattle.std.specs.Prelude.{◌≡◌, ◌<◌, ◌≤◌, ◌+◌, ◌*◌, ◌^◌, ◌&&◌, ℕ, None, Some, not, All, IfOk, length, filter, slice_get, nat_lt};
 ghost use Rattle.std.specs.List.{list_any, slice_index_or};
 ghost use Rattle.std.specs.List.Sorted.{IsPermutation, IsNonDecreasingBy};
 ghost use Rattle.std.specs.Ordering.{nat_cmp};
 ghost use Rattle.symbol_table.specs.Records.{records_refusal};
 ghost use Rattle.toc_rewrite.specs.Laid.{HasAddresses};
-ghost use Rattle.toc_rewrite.specs.Folded.{is_slot_at, folded_in, AreFolds};
+ghost use Rattle.toc_rewrite.specs.Folded.{is_slot_at, is_slot_named, folded_in, IsNamed, AreFolds};
 ghost use Rattle.toc_rewrite.specs.inside.Laid.{laid_files};
-ghost use Rattle.toc_rewrite.specs.inside.Slots.{place_of, place_rank, slot_rank, is_free, IsLowSlot};
+ghost use Rattle.toc_rewrite.specs.inside.Slots.{place_of, place_rank, slot_rank, name_rank, is_free, IsLowSlot};
 
 use crate::found::{Found, Slot};
 use crate::laid::Laid;
@@ -74,6 +74,34 @@ impl Slot {
     {
         self.id.file == file && self.id.section == section && self.offset == offset
     }
+
+    /// Whether a slot of a file that begins at an address comes behind it: by file, and then by address.
+    fn is_named_before(self, file: u32, address: u64) -> bool
+        ensures { result ≡ nat_lt (name_rank self) (file * 2 ^ 64 + address) }
+    {
+        self.id.file < file || (self.id.file == file && self.address < address)
+    }
+
+    /// How the slot stands to another one by file, and then by address.
+    fn order_of_names(self, other: Slot) -> Ordering
+        ensures { result ≡ nat_cmp (name_rank self) (name_rank other) }
+    {
+        if self.is_named_before(other.id.file, other.address) {
+            Ordering::Less
+        } else if other.is_named_before(self.id.file, self.address) {
+            Ordering::Greater
+        } else {
+            Ordering::Equal
+        }
+    }
+
+    /// Whether it is a slot of a file that begins at a number.
+    fn is_named(self, file: u32, number: u64) -> bool
+        ensures is { result ≡ is_slot_named file number self }
+        ensures address { self.address < 2 ^ 64 }
+    {
+        self.id.file == file && self.address == number
+    }
 }
 
 /// Those of slots that lie in orderly files and that no use keeps.
@@ -104,6 +132,16 @@ fn sort_slots(slots: &mut Vec<Slot>)
     slots.sort_unstable_by(|s, t| s.place().order(t.place()));
 }
 
+/// Slots in order of their files and addresses.
+fn named_slots(alloc: Global, slots: &[Slot]) -> Result<Vec<Slot>, AllocError>
+    ensures same { IfOk result (λ named. IsPermutation slots.now named.items) }
+    ensures sorted { IfOk result (λ named. IsNonDecreasingBy name_rank named.items) }
+{
+    let mut named = Vec::from_slice(alloc, slots)?;
+    named.sort_unstable_by(|s, t| s.order_of_names(*t));
+    Ok(named)
+}
+
 /// The foldable slots of files, and which of the files are orderly. Reading them takes no memory.
 #[derive(Drop)]
 pub struct Folds {
@@ -115,19 +153,14 @@ pub struct Folds {
 }
 
 impl Model for Folds {
-    ghost use Rattle.std.specs.List.Sorted.{IsNonDecreasingBy};
     ghost use Rattle.toc_rewrite.specs.Folded.{FoldedSlots};
-    ghost use Rattle.toc_rewrite.specs.inside.Slots.{slot_rank};
+    ghost use Rattle.toc_rewrite.specs.inside.Slots.{AreOrdered};
 
     ghost Value = { FoldedSlots };
 
-    ghost view = { λ f. record {
-      orderly = f.orderly.items;
-      slots = f.slots.items;
-      named = f.named.items;
-    } };
+    ghost view = { λ f. record { orderly = f.orderly.items; slots = f.slots.items } };
 
-    ghost invariant = { λ f. IsNonDecreasingBy slot_rank f.slots.items };
+    ghost invariant = { λ f. AreOrdered f.slots.items f.named.items };
 }
 
 impl Folds {
@@ -161,6 +194,26 @@ impl Folds {
             None => false,
         }
     }
+
+    /// The foldable slot of a file that begins at a number, if there is one. Only records of the file that name its first byte go into
+    /// its eight bytes.
+    pub fn named(&self, file: u32, number: u64) -> Option<Slot>
+        ensures { IsNamed self.now file number result }
+    {
+        let next = self
+            .named
+            .partition_point(|s| s.is_named_before(file, number));
+        match self.named.get(next) {
+            Some(slot) => {
+                if slot.is_named(file, number) {
+                    Some(*slot)
+                } else {
+                    None
+                }
+            }
+            None => None,
+        }
+    }
 }
 
 /// The foldable slots of resolved files, of which no record is refused, where `bases` has the TOC base of each file; and `pieces` has,
@@ -184,9 +237,10 @@ pub fn foldable(
     let uses = SlotUses::of(uses);
     let mut free = free_slots(alloc, orderly.as_slice(), &uses, slots.as_slice())?;
     sort_slots(&mut free);
+    let named = named_slots(alloc, free.as_slice())?;
     Ok(Folds {
         orderly,
         slots: free,
-        named: Vec::new(alloc),
+        named,
     })
 }

@@ -10,9 +10,10 @@ ghost use Rattle.symbol_table.specs.declared.target.Target.{Target};
 ghost use Rattle.toc_rewrite.specs.Laid.{base_of};
 ghost use Rattle.toc_rewrite.specs.Records.{record_target};
 ghost use Rattle.toc_rewrite.specs.Folds.{fills_slot, slot_address, reaches_number, reaches_offset, reaches};
+ghost use Rattle.toc_rewrite.specs.Folded.{slot_of};
 ghost use Rattle.toc_rewrite.specs.inside.Laid.{IsTargetOf, IsFileOf};
 ghost use Rattle.toc_rewrite.specs.inside.Uses.{use_of};
-ghost use Rattle.toc_rewrite.specs.inside.Slots.{slot_of, is_candidate, candidate_of, HasFound, HasAll};
+ghost use Rattle.toc_rewrite.specs.inside.Slots.{is_candidate, candidate_of, HasFound, HasAll};
 
 use crate::laid::{ADDRESS_SPAN, Laid};
 use crate::uses::SlotUse;

@@ -5,10 +5,13 @@
 mod folds;
 mod found;
 mod laid;
+mod loads;
 mod orderly;
 mod records;
 mod uses;
 mod words;
 
 pub use folds::{Folds, foldable};
+pub use found::Slot;
+pub use loads::TocRecord;
 pub use words::fold_word;

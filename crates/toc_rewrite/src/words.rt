@@ -38,14 +38,14 @@ fn target_register(word: u32) -> u32
 }
 
 /// The register to which a word adds its displacement.
-fn base_register(word: u32) -> u32
+pub fn base_register(word: u32) -> u32
     ensures register { result ≡ base_register word }
     ensures fits { result < 32 }
 {
     (word >> 16) % 32
 }
 
-fn is_ld(word: u32) -> bool
+pub fn is_ld(word: u32) -> bool
     ensures { result ≡ is_ld word }
 {
     primary_opcode(word) == LD_FORMS && word % 4 == 0
@@ -112,7 +112,7 @@ pub fn only_loads(kind: Kind, word: u32) -> bool
 }
 
 /// Whether one signed half holds a number.
-fn is_small(x: i128) -> bool
+pub fn is_small(x: i128) -> bool
     ensures { result ≡ is_small x }
 {
     -0x8000 <= x && x < 0x8000

@@ -1,6 +1,7 @@
 -- Slots while they are judged.
 use Rattle.std.specs.Prelude.{◌≡◌, ℕ, ◌+◌, ◌*◌, ◌^◌, ◌<◌, Bool, false, not, List, [], ◌∷◌, ◌++◌, ◌&&◌, ◌||◌, flat_map, if◌then◌else◌}
 use Rattle.std.specs.List.{list_any, slice_index_or}
+use Rattle.std.specs.List.Sorted.{IsPermutation, IsNonDecreasingBy}
 use Rattle.object_set.specs.declared.places.RecordId.{RecordId}
 use Rattle.toc_rewrite.specs.declared.found.Found.{Found}
 use Rattle.toc_rewrite.specs.declared.found.Slot.{Slot}
@@ -8,14 +9,11 @@ use Rattle.toc_rewrite.specs.declared.folds.SlotPlace.{SlotPlace}
 use Rattle.toc_rewrite.specs.declared.uses.SlotUse.{SlotUse}
 use Rattle.toc_rewrite.specs.Laid.{LaidFiles, base_of}
 use Rattle.toc_rewrite.specs.Records.{facts_of, record_target, all_records}
-use Rattle.toc_rewrite.specs.Folds.{fills_slot, reaches, slot_address}
+use Rattle.toc_rewrite.specs.Folds.{fills_slot, reaches}
+use Rattle.toc_rewrite.specs.Folded.{slot_of}
 use Rattle.toc_rewrite.specs.inside.Uses.{use_of, is_below, is_above}
 
--- the slot that a record fills
-abbrev pub slot_of : LaidFiles → RecordId → Slot
-slot_of laid r = record { id = r; offset = (facts_of laid.files r).offset; address = slot_address laid r }
-
--- what it holds is in reach of the TOC base
+-- a record fills a slot with what is in reach of the TOC base
 abbrev pub is_candidate : LaidFiles → RecordId → Bool
 is_candidate laid r = fills_slot laid.files r && reaches laid (base_of laid r.file) (record_target laid.files r)
 
@@ -43,6 +41,10 @@ place_of s = record { file = s.id.file; section = s.id.section; offset = s.offse
 abbrev pub slot_rank : Slot → ℕ
 slot_rank s = place_rank (place_of s)
 
+-- a number that grows with the file and, in a file, with the address
+abbrev pub name_rank : Slot → ℕ
+name_rank s = s.id.file * 2 ^ 64 + s.address
+
 -- a slot of one of so many files that ends below 2^64
 pub record IsLowSlot (n : ℕ) (s : Slot) : Type 0 where
   pub file_in : s.id.file < n
@@ -54,3 +56,9 @@ abbrev pub is_free : List Bool → List SlotUse → Slot → Bool
 is_free orderly uses s =
     slice_index_or orderly s.id.file false
     && not (list_any (is_below s.id.file s.address) uses || list_any (is_above s.id.file s.address) uses)
+
+-- slots in order of their places, and the same slots in order of their addresses
+pub record AreOrdered (slots named : List Slot) : Type 0 where
+  pub placed : IsNonDecreasingBy slot_rank slots
+  pub same : IsPermutation slots named
+  pub sorted : IsNonDecreasingBy name_rank named

@@ -63,5 +63,5 @@ returns c =
     ∙ ap (filter (is_free c.in_ok-orderly.orderly.items c.of-uses.result)) c.as_slice-2.ensures.value in
     let are = free_are laid whole few c.requires.whole c.requires.addresses c.in_ok-orderly.orderly.items c.of-uses.result
     c.in_ok-uses.field-0.slots.items c.in_ok-free.free.items orderly same found free in
-    sorted_folds laid c.in_ok-orderly.orderly.items c.in_ok-free.free.items c.sort_slots.new.slots.items c.new.result.items orderly are
+    sorted_folds laid c.in_ok-orderly.orderly.items c.in_ok-free.free.items c.sort_slots.new.slots.items orderly are
     c.sort_slots.ensures.same
