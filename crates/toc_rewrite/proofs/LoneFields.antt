@@ -56,12 +56,12 @@ one_before q r differ =
     elim (cases_lt q.table r.table) [
       | inl less ↦ inl (grind (arith, nat_tests))
       | inr most ↦ elim (cases_lt r.table q.table) [
-          | inl less ↦ inr (grind (arith, nat_tests))
-          | inr same ↦ elim (cases_lt q.entry r.entry) [
-              | inl less ↦ inl (grind (arith, nat_tests))
-              | inr after ↦ inr (grind (arith, nat_tests, differ))
-            ]
+        | inl less ↦ inr (grind (arith, nat_tests))
+        | inr same ↦ elim (cases_lt q.entry r.entry) [
+          | inl less ↦ inl (grind (arith, nat_tests))
+          | inr after ↦ inr (grind (arith, nat_tests, differ))
         ]
+      ]
     ]
 
 module _ (files : List (List ℕ)) (none : records_refusal files ≡ None) where

@@ -216,6 +216,15 @@ impl Folds {
     }
 }
 
+/// What a test asks of files that may not be there.
+#[cfg(test)]
+impl Folds {
+    /// Whether a file is orderly, if it is one of the files.
+    pub fn is_orderly_file(&self, file: u32) -> Option<bool> {
+        self.orderly.get(file as usize).copied()
+    }
+}
+
 /// The foldable slots of resolved files, of which no record is refused, where `bases` has the TOC base of each file; and `pieces` has,
 /// for each file in order and each section number from 0, the section's address, or 0 where it is no data, and then the address of each
 /// common in first-seen order of the names. Each address is below 0x60000000.

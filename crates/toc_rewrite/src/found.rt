@@ -133,12 +133,7 @@ impl<'l, 'a, 'b> Laid<'l, 'a, 'b> {
     }
 
     /// Puts the slot that a record fills behind others, if what it holds is in reach of the TOC base.
-    fn push_slot(
-        &self,
-        slots: &mut Vec<Slot>,
-        id: RecordId,
-        bytes: &[u8],
-    ) -> Result<(), AllocError>
+    fn push_slot(&self, slots: &mut Vec<Slot>, id: RecordId, bytes: &[u8]) -> Result<(), AllocError>
         requires record { IsRecord self.now.files id }
         requires bytes { bytes.now ≡ section_bytes (file_at self.now.files id.file) id.section }
         ensures { OnOk result (slots.new.items ≡ slots.old.items ++ candidate_of self.now id) }

@@ -27,9 +27,9 @@ fn plus(n: u64, addend: i64) -> u64
 
 /// How many sections come before those of each file, and before all commons.
 #[derive(Drop)]
-struct Firsts {
-    items: Vec<u64>,
-    commons: u64,
+pub struct Firsts {
+    pub items: Vec<u64>,
+    pub commons: u64,
 }
 
 /// Files whose data has addresses, none of whose relocation records is refused. Contracts see the files and the addresses.
@@ -55,7 +55,7 @@ impl<'l, 'a, 'b> Model for Laid<'l, 'a, 'b> {
 }
 
 /// How many sections come before those of each file of a set, and before all commons.
-fn firsts_of(alloc: Global, set: &ObjectSet) -> Result<Firsts, AllocError>
+pub fn firsts_of(alloc: Global, set: &ObjectSet) -> Result<Firsts, AllocError>
     ensures { IfOk result (AreFirsts set.now) }
 {
     let mut items = Vec::new(alloc);

@@ -15,3 +15,6 @@ pub use folds::{Folds, foldable};
 pub use found::Slot;
 pub use loads::TocRecord;
 pub use words::fold_word;
+
+#[cfg(test)]
+mod tests;

@@ -34,8 +34,7 @@ impl SlotUse {
         ensures { result ≡ nat_lt (rank self) (rank other) }
     {
         self.number < other.number
-            || (self.number == other.number
-                && loader_rank(self.loader) < loader_rank(other.loader))
+            || (self.number == other.number && loader_rank(self.loader) < loader_rank(other.loader))
     }
 
     /// How the use stands to another one: by number, and then by loader.

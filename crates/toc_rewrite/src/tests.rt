@@ -1,0 +1,4 @@
+mod conditions;
+mod files;
+mod listings;
+mod uses;
