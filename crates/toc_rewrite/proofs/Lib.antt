@@ -1,6 +1,5 @@
 pub mod Sections
 pub mod SoundRecords
-pub mod Entries
 pub mod Windows
 pub mod FoundRecords
 pub mod NeededSlots

@@ -17,7 +17,7 @@ use Rattle.symbol_table.specs.Records.{records_refusal}
 use Rattle.symbol_table.specs.laws.Records.{fields_apart}
 use Rattle.toc_rewrite.specs.Records.{facts_of, kind_of}
 use Rattle.toc_rewrite.specs.Folds.{is_address, is_same_record, fills_alone}
-use Rattle.toc_rewrite.proofs.Entries.{entry_next, table_next}
+use Rattle.toc_rewrite.specs.laws.Entries.{entry_next, table_next}
 use Rattle.toc_rewrite.proofs.SoundRecords.{sound_field, address_kind}
 
 module _ (test : RecordId → Bool) (file : ℕ) (b : List ℕ) where

@@ -5,3 +5,4 @@ pub mod Folds
 pub mod Folded
 pub mod Uses
 pub mod inside
+pub mod laws

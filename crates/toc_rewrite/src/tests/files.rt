@@ -86,78 +86,91 @@ fn push_lines(
     Ok(())
 }
 
-/// A symbol of section `section`, if that isn't 0.
+/// A symbol of a section, or of none where that is 0.
 fn symbol(name: &'static [u8], binding: u8, section: u16) -> Symbol<'static> {
     Symbol {
         name,
         info: binding << 4,
         section,
+        stated_name: None,
         ..Symbol::NULL
     }
 }
 
-/// The bytes of a file of this number. Its section 1 is text, section 2 `.toc` and section 3 `.data`.
-fn file_bytes(alloc: Global, number: usize, file: &File) -> Result<Vec<u8>, Memory> {
-    let (mut code, mut code_records) = (Vec::new(alloc), Vec::new(alloc));
-    push_lines(&mut code, &mut code_records, file.code, &[])?;
-    let (mut toc, mut toc_records) = (Vec::new(alloc), Vec::new(alloc));
-    push_lines(&mut toc, &mut toc_records, file.toc, &[0; 4])?;
-    let (mut data, mut data_records) = (Vec::new(alloc), Vec::new(alloc));
-    push_lines(&mut data, &mut data_records, file.data, &[0; 4])?;
-    let own = |name, section| Symbol {
-        stated_name: None,
-        ..symbol(name, 0, section)
-    };
-    let first = if number == 0 { 2 } else { 0 };
-    let start = if number == 0 { STB_GLOBAL } else { STB_WEAK };
-    let symbols = [
-        own(b"toc", 2),
-        own(b"text", 1),
-        own(b"data", 3),
-        own(b"zero", SHN_ABS),
-        own(b".TOC.", 0),
-        Symbol {
-            stated_name: None,
-            ..symbol(b"nothing", STB_WEAK, 0)
-        },
-        Symbol {
-            stated_name: None,
-            ..symbol(b"first", STB_GLOBAL, first)
-        },
-        Symbol {
-            info: start << 4,
-            other: 3 << 5,
-            ..Symbol::START
-        },
-    ];
-    let sections = [
-        Section {
-            bytes: &code,
-            records: &code_records,
-            ..Section::TEXT
-        },
-        Section {
-            bytes: &toc,
-            records: &toc_records,
-            ..Section::TOC
-        },
-        Section {
-            bytes: &data,
-            records: &data_records,
-            ..Section::DATA
-        },
-    ];
+/// The symbols of a file of this number from symbol 1 on: those of `Named`, and the entry.
+fn symbols_of(alloc: Global, number: usize) -> Result<Vec<Symbol<'static>>, AllocError> {
+    let is_first = number == 0;
+    let mut symbols = Vec::new(alloc);
+    symbols.push(symbol(b"toc", 0, 2))?;
+    symbols.push(symbol(b"text", 0, 1))?;
+    symbols.push(symbol(b"data", 0, 3))?;
+    symbols.push(symbol(b"zero", 0, SHN_ABS))?;
+    symbols.push(symbol(b".TOC.", 0, 0))?;
+    symbols.push(symbol(b"nothing", STB_WEAK, 0))?;
+    symbols.push(symbol(b"first", STB_GLOBAL, if is_first { 2 } else { 0 }))?;
+    symbols.push(Symbol {
+        info: STB_WEAK << 4,
+        other: 3 << 5,
+        ..Symbol::START
+    })?;
+    Ok(symbols)
+}
+
+/// An object of these parts.
+fn of_parts<'a>(sections: &'a [Section<'a>], symbols: &'a [Symbol<'a>]) -> Object<'a> {
     Object {
         header: FileHeader::OBJECT,
-        sections: &sections,
+        sections,
         null_symbol: Symbol::NULL,
-        symbols: &symbols,
+        symbols,
         null_section: Stated::TRUE,
         symbol_table: Stated::TRUE,
         symbol_names: Stated::TRUE,
         section_names: Stated::TRUE,
     }
-    .file(alloc)
+}
+
+/// The bytes of a section, and its records.
+#[derive(Drop)]
+struct SectionParts {
+    bytes: Vec<u8>,
+    records: Vec<Record>,
+}
+
+/// Those of lines of so many bytes more than a word.
+fn parts_of(alloc: Global, lines: &[Line], pad: &[u8]) -> Result<SectionParts, AllocError> {
+    let mut bytes = Vec::new(alloc);
+    let mut records = Vec::new(alloc);
+    push_lines(&mut bytes, &mut records, lines, pad)?;
+    Ok(SectionParts { bytes, records })
+}
+
+/// Section 1, 2 or 3, behind so many others.
+fn section<'a>(before: usize, parts: &'a SectionParts) -> Section<'a> {
+    let kind = match before {
+        0 => Section::TEXT,
+        1 => Section::TOC,
+        _ => Section::DATA,
+    };
+    Section {
+        bytes: parts.bytes.as_slice(),
+        records: parts.records.as_slice(),
+        ..kind
+    }
+}
+
+/// The bytes of a file of this number. Its section 1 is text, section 2 `.toc` and section 3 `.data`.
+fn file_bytes(alloc: Global, number: usize, file: &File) -> Result<Vec<u8>, Memory> {
+    let mut parts = Vec::new(alloc);
+    parts.push(parts_of(alloc, file.code, &[])?)?;
+    parts.push(parts_of(alloc, file.toc, &[0; 4])?)?;
+    parts.push(parts_of(alloc, file.data, &[0; 4])?)?;
+    let mut sections = Vec::new(alloc);
+    for (i, part) in parts.iter().enumerate() {
+        sections.push(section(i, part))?;
+    }
+    let symbols = symbols_of(alloc, number)?;
+    of_parts(&sections, &symbols).file(alloc)
 }
 
 /// Whether all addresses are as low as data's.

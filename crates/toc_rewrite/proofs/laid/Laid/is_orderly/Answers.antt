@@ -6,7 +6,7 @@ use Rattle.elf64_records.specs.Records.{record_count}
 use Rattle.object_set.specs.Files.{file_at}
 use Rattle.object_set.specs.Walks.{records_in}
 use Rattle.toc_rewrite.specs.inside.Tables.{is_unsuited_record}
-use Rattle.toc_rewrite.proofs.Entries.{table_passes, table_more, not_true, not_false}
+use Rattle.toc_rewrite.specs.laws.Entries.{table_passes, table_more, not_true, not_false}
 use Rattle.toc_rewrite.proofs.laid.Laid.is_orderly.Goals as goal
 
 pub returns-then-not-is_orderly_table : goal.returns-then-not-is_orderly_table

@@ -7,7 +7,7 @@ use Rattle.object_set.specs.declared.places.RecordId.{RecordId}
 use Rattle.object_set.specs.Files.{file_at}
 use Rattle.object_set.specs.Walks.{record_id, records_in}
 use Rattle.toc_rewrite.specs.inside.Tables.{is_unsuited_record}
-use Rattle.toc_rewrite.proofs.Entries.{entry_passes, entry_more, not_true, not_false}
+use Rattle.toc_rewrite.specs.laws.Entries.{entry_passes, entry_more, not_true, not_false}
 use Rattle.toc_rewrite.proofs.laid.Laid.is_orderly_table.Goals as goal
 
 -- a record with the section that its table's header names

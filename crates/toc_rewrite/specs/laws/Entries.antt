@@ -1,11 +1,13 @@
 -- What one record of a file has, some record of the file has.
-use Rattle.std.proofs.Common.{◌≡◌, ◌<◌, ℕ, zero, suc, ◌+◌, Bool, true, false, not, ◌||◌, List, [], ◌∷◌, ◌++◌, sym, ap, ◌∙◌, subst, refl, arith, inl, inr, add-one}
+use Rattle.std.proofs.Common.{◌≡◌, ◌<◌, ℕ, zero, suc, ◌+◌, Bool, true, false, not, ◌||◌, List, [], ◌∷◌, ◌++◌, length, sym, ap, ◌∙◌, subst, refl, arith, inl, inr, add-one}
 use Rattle.std.specs.List.{list_any}
 use Rattle.std.proofs.lemmas.Bool.{cases_lt}
 use Rattle.std.proofs.lemmas.List.Folds.{list_any-append}
 use Rattle.elf64_records.specs.Records.{record_count}
 use Rattle.object_set.specs.declared.places.RecordId.{RecordId}
-use Rattle.object_set.specs.Walks.{items_in, record_walk, record_id, records_in}
+use Rattle.elf64_records.specs.FileHeader.{e_shnum}
+use Rattle.object_set.specs.Files.{file_at}
+use Rattle.object_set.specs.Walks.{items_in, items_before, all_items, record_walk, record_id, records_in, IsRecord}
 
 or_true : (p : Bool) → (p || true) ≡ true
 or_true true = refl
@@ -77,3 +79,30 @@ not_true false is = refl
 pub not_false : (b : Bool) → not b ≡ false → b ≡ true
 not_false true is = refl
 not_false false is = cc
+
+module _ (test : RecordId → Bool) (files : List (List ℕ)) where
+  file_passes : (file n : ℕ) → file < n →
+      list_any test (items_in record_walk file (file_at files file) (e_shnum (file_at files file))) ≡ true →
+      list_any test (items_before record_walk files n) ≡ true
+  file_passes file zero within passes = absurd (omega arith)
+  file_passes file (suc n) within passes =
+      let before = items_before record_walk files n in
+      let own : ℕ → List RecordId = λ m. items_in record_walk m (file_at files m) (e_shnum (file_at files m)) in
+      let all = list_any-append test before (own n) in
+      elim (cases_lt file n) [
+        | inl less ↦ all ∙ ap (λ (x : Bool). x || list_any test (own n)) (file_passes file n less passes)
+        | inr most ↦ (
+            let same : file ≡ n = omega arith in
+            let last : list_any test (own n) ≡ true = subst (λ (m : ℕ). list_any test (own m) ≡ true) same passes in
+            all ∙ ap (λ (x : Bool). list_any test before || x) last ∙ or_true (list_any test before))
+      ]
+
+  -- what a record of a set has, some record of all has
+  pub record_passes : (r : RecordId) → IsRecord files r → test r ≡ true → list_any test (all_items record_walk files) ≡ true
+  record_passes r is passes =
+      let b = file_at files r.file in
+      let own : record_id r.file b r.table r.entry ≡ r =
+      ap (λ (s : ℕ). record { file = r.file; table = r.table; entry = r.entry; section = s }) (sym is.section_is) in
+      file_passes r.file (length files) is.file_in
+      (table_passes test r.file b r.table (e_shnum b) is.table_in
+      (entry_passes test r.file b r.table r.entry (record_count b r.table) is.within (ap test own ∙ passes)))

@@ -1,0 +1,4 @@
+-- Laws that crates above may cite, with their proofs.
+pub mod Entries
+pub mod Reach
+pub mod Slots
