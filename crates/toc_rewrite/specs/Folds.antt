@@ -13,7 +13,7 @@ use Rattle.reloc_fields.specs.declared.kind.Kind.TheVariants.{Addr64}
 use Rattle.symbol_table.specs.declared.target.Target.{Target}
 use Rattle.symbol_table.specs.declared.target.Target.TheVariants as target
 use Rattle.symbol_table.specs.Fields.{field_of, records_of, meets}
-use Rattle.toc_rewrite.specs.declared.laid.TheConstants.{ADDRESS_SPAN}
+use Rattle.toc_rewrite.specs.declared.laid.TheConstants.{CODE_REACH}
 use Rattle.toc_rewrite.specs.Laid.{LaidFiles, base_of, section_address, number_of}
 use Rattle.toc_rewrite.specs.Records.{facts_of, kind_of, word_at, record_target, record_number, is_of_prologue, all_records}
 use Rattle.toc_rewrite.specs.Words.{suits, only_loads}
@@ -71,7 +71,7 @@ reaches_number base (Some n) =
 
 -- an offset, read as signed, that no layout of text puts out of reach
 abbrev pub reaches_offset : ℤ → Bool
-reaches_offset offset = not (int_lt offset (neg_ℤ ADDRESS_SPAN)) && not (int_lt ADDRESS_SPAN offset)
+reaches_offset offset = not (int_lt offset (neg_ℤ CODE_REACH)) && not (int_lt CODE_REACH offset)
 
 -- two halves reach a target from a TOC base: a number by itself, a place in text by its offset, so that it doesn't depend on where text
 -- lies

@@ -16,6 +16,9 @@ pub record LaidFiles : Type 0 where
   pub bases : List ℕ
   pub pieces : List ℕ
 
+abbrev pub laid_files : List (List ℕ) → List ℕ → List ℕ → LaidFiles
+laid_files files bases pieces = record { files = files; bases = bases; pieces = pieces }
+
 -- there is a base for each file and an address for each section and common, and data ends below the text's limit
 pub record HasAddresses (laid : LaidFiles) : Type 0 where
   pub bases : length laid.bases ≡ length laid.files

@@ -4,9 +4,8 @@ ghost use Rattle.std.specs.List.{list_any, slice_index_or};
 ghost use Rattle.std.specs.List.Sorted.{IsPermutation, IsNonDecreasingBy};
 ghost use Rattle.std.specs.Ordering.{nat_cmp};
 ghost use Rattle.symbol_table.specs.Records.{records_refusal};
-ghost use Rattle.toc_rewrite.specs.Laid.{HasAddresses};
+ghost use Rattle.toc_rewrite.specs.Laid.{laid_files, HasAddresses};
 ghost use Rattle.toc_rewrite.specs.Folded.{is_slot_at, is_slot_named, folded_in, IsNamed, AreFolds};
-ghost use Rattle.toc_rewrite.specs.inside.Laid.{laid_files};
 ghost use Rattle.toc_rewrite.specs.inside.Slots.{place_of, place_rank, slot_rank, name_rank, is_free, IsLowSlot};
 
 use crate::found::{Found, Slot};

@@ -15,7 +15,7 @@ ghost use Rattle.toc_rewrite.specs.inside.Laid.{IsTargetOf, IsFileOf};
 ghost use Rattle.toc_rewrite.specs.inside.Uses.{use_of};
 ghost use Rattle.toc_rewrite.specs.inside.Slots.{is_candidate, candidate_of, HasFound, HasAll};
 
-use crate::laid::{ADDRESS_SPAN, Laid};
+use crate::laid::{CODE_REACH, Laid};
 use crate::uses::SlotUse;
 use object_set::{RecordId, Sort};
 use reloc_fields::Kind;
@@ -59,7 +59,7 @@ fn reaches_number(base: u64, number: Option<u64>) -> bool
 fn reaches_offset(offset: i64) -> bool
     ensures { result ≡ reaches_offset offset }
 {
-    -ADDRESS_SPAN <= offset && offset <= ADDRESS_SPAN
+    -CODE_REACH <= offset && offset <= CODE_REACH
 }
 
 impl<'l, 'a, 'b> Laid<'l, 'a, 'b> {

@@ -4,8 +4,8 @@ ghost use Rattle.std.specs.List.{range_with_len};
 ghost use Rattle.object_set.specs.Walks.{section_walk, index_of};
 ghost use Rattle.symbol_table.specs.Records.{records_refusal};
 ghost use Rattle.symbol_table.specs.Targets.{plus_addend};
-ghost use Rattle.toc_rewrite.specs.Laid.{HasAddresses, base_of, section_address, common_address, piece_address, number_of};
-ghost use Rattle.toc_rewrite.specs.inside.Laid.{laid_files, AreFirsts, IsPieceOf, IsTargetOf};
+ghost use Rattle.toc_rewrite.specs.Laid.{laid_files, HasAddresses, base_of, section_address, common_address, piece_address, number_of};
+ghost use Rattle.toc_rewrite.specs.inside.Laid.{AreFirsts, IsPieceOf, IsTargetOf};
 
 use object_set::ObjectSet;
 use std::alloc::{AllocError, Global};
@@ -15,8 +15,9 @@ use symbol_table::{Piece, Resolved, Target};
 /// Addresses of data are below this.
 pub const ADDRESS_END: u64 = 0x6000_0000;
 
-/// All places in text are within this many bytes of their sections' starts, and each start is in reach of each TOC base by so many.
-pub const ADDRESS_SPAN: i64 = 0x1000_0000;
+/// An offset in text at most this far from 0 is in reach of two halves from each TOC base, wherever text lies: a section of text begins
+/// below 0x70000000, and a TOC base lies below `ADDRESS_END`.
+pub const CODE_REACH: i64 = 0x1000_0000;
 
 /// A number and an addend, modulo 2^64.
 fn plus(n: u64, addend: i64) -> u64
@@ -44,8 +45,8 @@ pub struct Laid<'l, 'a, 'b> {
 impl<'l, 'a, 'b> Model for Laid<'l, 'a, 'b> {
     ghost use Rattle.std.specs.Prelude.{◌≡◌, None};
     ghost use Rattle.symbol_table.specs.Records.{records_refusal};
-    ghost use Rattle.toc_rewrite.specs.Laid.{LaidFiles};
-    ghost use Rattle.toc_rewrite.specs.inside.Laid.{laid_files, IsLaid};
+    ghost use Rattle.toc_rewrite.specs.Laid.{LaidFiles, laid_files};
+    ghost use Rattle.toc_rewrite.specs.inside.Laid.{IsLaid};
 
     ghost Value = { LaidFiles };
 

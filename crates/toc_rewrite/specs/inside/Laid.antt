@@ -11,9 +11,6 @@ use Rattle.toc_rewrite.specs.declared.laid.Firsts.{Firsts}
 use Rattle.symbol_table.specs.inside.Fields.{FileOf}
 use Rattle.toc_rewrite.specs.Laid.{LaidFiles, HasAddresses}
 
-abbrev pub laid_files : List (List ℕ) → List ℕ → List ℕ → LaidFiles
-laid_files files bases pieces = record { files = files; bases = bases; pieces = pieces }
-
 -- how many sections come before those of each file, and before all commons
 pub record AreFirsts (files : List (List ℕ)) (firsts : Firsts) : Type 0 where
   pub items : firsts.items.items ≡ map (λ file. index_of section_walk files file 0) (range_with_len 0 (length files))

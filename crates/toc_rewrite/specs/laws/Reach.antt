@@ -68,9 +68,10 @@ within_case x false false b a small =
     absurd (omega (arith, ints, a))
 
 pub is_small-IsSmall : (x : ℤ) → (is_small x ≡ true) ↔ IsSmall x
-is_small-IsSmall x =
-    (λ is. small_case x (int_lt x (neg_ℤ (pos 0x8000))) (int_lt x (pos 0x8000)) refl refl is,
-    λ small. within_case x (int_lt x (neg_ℤ (pos 0x8000))) (int_lt x (pos 0x8000)) refl refl small)
+is_small-IsSmall x = (
+  λ is. small_case x (int_lt x (neg_ℤ (pos 0x8000))) (int_lt x (pos 0x8000)) refl refl is,
+  λ small. within_case x (int_lt x (neg_ℤ (pos 0x8000))) (int_lt x (pos 0x8000)) refl refl small,
+)
 
 pub is_small-whole_ha : (x : ℤ) → (is_small x ≡ true) ↔ (whole_ha x ≡ pos 0)
 is_small-whole_ha x =

@@ -1,8 +1,7 @@
 // Files with TOC loads, made of their words and slots, and the foldable slots that they have where their data lies at known addresses.
 ghost use Rattle.std.specs.Prelude.{◌≡◌, ◌<◌, ◌≤◌, ◌^◌, ℕ, None, IsTrue, IfOk, Ok, slice_index};
 ghost use Rattle.symbol_table.specs.Records.{records_refusal};
-ghost use Rattle.toc_rewrite.specs.Laid.{HasAddresses};
-ghost use Rattle.toc_rewrite.specs.inside.Laid.{laid_files};
+ghost use Rattle.toc_rewrite.specs.Laid.{laid_files, HasAddresses};
 ghost use Rattle.toc_rewrite.specs.declared.laid.TheConstants.{ADDRESS_END};
 
 use crate::laid::{ADDRESS_END, firsts_of};

@@ -7,10 +7,9 @@ use Rattle.std.proofs.lemmas.List.FromFn.{length-range_with_len}
 use Rattle.object_set.specs.Refusals.{set_refusal}
 use Rattle.toc_rewrite.specs.declared.found.Slot.{Slot}
 use Rattle.toc_rewrite.specs.declared.uses.SlotUse.{SlotUse}
-use Rattle.toc_rewrite.specs.Laid.{LaidFiles}
+use Rattle.toc_rewrite.specs.Laid.{LaidFiles, laid_files}
 use Rattle.toc_rewrite.specs.Records.{all_records}
 use Rattle.toc_rewrite.specs.Folds.{is_orderly}
-use Rattle.toc_rewrite.specs.inside.Laid.{laid_files}
 use Rattle.toc_rewrite.specs.inside.Uses.{use_of}
 use Rattle.toc_rewrite.specs.inside.Slots.{IsLowSlot, candidate_of, is_free}
 use Rattle.toc_rewrite.proofs.KeptSlots.{low_slots, free_are, sorted_folds}
