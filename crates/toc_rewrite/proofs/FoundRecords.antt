@@ -1,5 +1,5 @@
 -- What records are found to be, list by list.
-use Rattle.std.proofs.Common.{◌≡◌, ℕ, ◌+◌, suc, List, [], ◌∷◌, ◌++◌, append_assoc, flat_map, sym, ap, ◌∙◌, subst, refl, add-one}
+use Rattle.std.proofs.Common.{◌≡◌, ℕ, ◌+◌, List, [], ◌∷◌, ◌++◌, append_assoc, flat_map, sym, ap, ◌∙◌, subst, add-one}
 use Rattle.std.proofs.lemmas.List.{append-nil}
 use Rattle.std.proofs.lemmas.List.Concat.{flat_map-append}
 use Rattle.elf64_records.specs.FileHeader.{e_shnum}

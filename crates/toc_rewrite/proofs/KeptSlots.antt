@@ -1,5 +1,5 @@
 -- Slots that are left are the foldable ones.
-use Rattle.std.proofs.Common.{◌≡◌, ◌<◌, ◌≤◌, ◌^◌, ◌%◌, ◌-◌, ℕ, zero, suc, ◌+◌, Bool, true, false, not, ◌&&◌, ◌||◌, eqb, List, [], ◌∷◌, ◌++◌, map, filter, flat_map, length, slice_index, take, drop, Option, Some, None, sym, ap, ◌∙◌, subst, refl, arith, if◌then◌else◌}
+use Rattle.std.proofs.Common.{◌≡◌, ◌<◌, ◌≤◌, ◌^◌, ◌%◌, ◌-◌, ℕ, zero, suc, ◌+◌, Bool, true, false, not, ◌&&◌, ◌||◌, eqb, List, [], ◌∷◌, ◌++◌, map, filter, flat_map, length, slice_index, take, drop, None, sym, ap, ◌∙◌, subst, refl, arith, if◌then◌else◌}
 use Rattle.std.specs.List.{list_any, slice_index_or, All, range_with_len}
 use Rattle.std.specs.List.Sorted.{IsPermutation}
 use Rattle.std.proofs.lemmas.Bool.{and_parts}
@@ -25,8 +25,8 @@ use Rattle.toc_rewrite.specs.declared.found.Slot.{Slot}
 use Rattle.toc_rewrite.specs.declared.uses.SlotUse.{SlotUse}
 use Rattle.toc_rewrite.specs.Laid.{LaidFiles, HasAddresses, base_of}
 use Rattle.toc_rewrite.specs.Records.{facts_of, kind_of, record_target, all_records}
-use Rattle.toc_rewrite.specs.Folds.{is_orderly, is_address, is_toc_sort, fills_slot, fills_alone, reaches, slot_address, needs_slot, fills_foldable, slot_records, fills_at, is_foldable}
-use Rattle.toc_rewrite.specs.Folded.{FoldedSlots, slot_of, is_slot_at, folded_in, AreFolds}
+use Rattle.toc_rewrite.specs.Folds.{is_orderly, is_address, is_toc_sort, fills_slot, fills_alone, reaches, slot_address, needs_slot, fills_foldable, slot_records}
+use Rattle.toc_rewrite.specs.Folded.{slot_of, is_slot_at, AreFolds}
 use Rattle.toc_rewrite.specs.inside.Uses.{use_of, is_below, is_above}
 use Rattle.toc_rewrite.specs.inside.Slots.{is_candidate, candidate_of, IsLowSlot, is_free}
 use Rattle.toc_rewrite.proofs.LoneFields.{address_alone}

@@ -1,5 +1,5 @@
 -- Where no record is refused, nothing but its record has bytes of a slot that a record fills.
-use Rattle.std.proofs.Common.{◌≡◌, ◌<◌, ◌≤◌, ◌⊎◌, inl, inr, ℕ, zero, suc, ◌+◌, Bool, true, false, not, ◌&&◌, ◌||◌, eqb, ltb, max, min, List, Option, Some, None, sym, ap, ◌∙◌, subst, refl, arith}
+use Rattle.std.proofs.Common.{◌≡◌, ◌<◌, ◌≤◌, ◌⊎◌, inl, inr, ℕ, zero, suc, ◌+◌, Bool, true, false, not, ◌&&◌, eqb, ltb, max, min, List, Option, Some, None, sym, ap, subst, refl, arith}
 use Rattle.std.specs.List.{list_any}
 use Rattle.std.proofs.lemmas.Bool.{cases_lt}
 use Rattle.std.proofs.lemmas.Bool.Decides.{nat_tests}
@@ -10,15 +10,13 @@ use Rattle.object_set.specs.Files.{file_at}
 use Rattle.object_set.specs.Walks.{items_in, record_walk, record_id, records_in, IsRecord}
 use Rattle.reloc_fields.specs.declared.kind.Kind.{Kind}
 use Rattle.reloc_fields.specs.declared.kind.Kind.TheVariants.{Addr64}
-use Rattle.reloc_fields.specs.Table.{line_of}
-use Rattle.symbol_table.specs.declared.fields.RecordField.{RecordField}
-use Rattle.symbol_table.specs.Fields.{field_of, records_of, meets, width_in, comes_before, overlaps_earlier}
+use Rattle.symbol_table.specs.Fields.{field_of, meets, width_in, comes_before, overlaps_earlier}
 use Rattle.symbol_table.specs.Records.{records_refusal}
 use Rattle.symbol_table.specs.laws.Records.{fields_apart}
 use Rattle.toc_rewrite.specs.Records.{facts_of, kind_of}
-use Rattle.toc_rewrite.specs.Folds.{is_address, is_same_record, fills_alone}
+use Rattle.toc_rewrite.specs.Folds.{is_same_record, fills_alone}
 use Rattle.toc_rewrite.specs.laws.Entries.{entry_next, table_next}
-use Rattle.toc_rewrite.proofs.SoundRecords.{sound_field, address_kind}
+use Rattle.toc_rewrite.proofs.SoundRecords.{sound_field}
 
 module _ (test : RecordId → Bool) (file : ℕ) (b : List ℕ) where
   none_entries : (i n : ℕ) → ((k : ℕ) → k < n → test (record_id file b i k) ≡ false) → list_any test (records_in file b i n) ≡ false

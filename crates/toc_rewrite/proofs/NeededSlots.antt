@@ -1,5 +1,5 @@
 -- Which uses keep a slot: those of records that do more than load it.
-use Rattle.std.proofs.Common.{◌≡◌, ◌<◌, ◌≤◌, ℕ, ◌+◌, ◌*◌, ◌^◌, Bool, true, false, not, ◌&&◌, ◌||◌, eqb, leb, ltb, List, [], ◌∷◌, ◌++◌, flat_map, length, Option, Some, None, sym, ap, ◌∙◌, refl, arith, suc, zero, if◌then◌else◌}
+use Rattle.std.proofs.Common.{◌≡◌, ◌<◌, ◌≤◌, ℕ, ◌+◌, ◌*◌, ◌^◌, Bool, true, false, not, ◌&&◌, ◌||◌, eqb, leb, ltb, List, [], ◌∷◌, flat_map, length, Option, Some, None, sym, ap, ◌∙◌, refl, arith, suc, if◌then◌else◌}
 use Rattle.std.specs.List.{list_any, slice_index_or, All}
 use Rattle.std.specs.List.Sorted.{IsPermutation}
 use Rattle.std.proofs.lemmas.Bool.Decides.{nat_tests}
@@ -12,7 +12,7 @@ use Rattle.toc_rewrite.specs.declared.uses.SlotUse.{SlotUse}
 use Rattle.toc_rewrite.specs.Laid.{LaidFiles}
 use Rattle.toc_rewrite.specs.Records.{kind_of, word_at, record_number, is_of_prologue, all_records}
 use Rattle.toc_rewrite.specs.Folds.{lies_in, is_number, loads_only, needs_slot}
-use Rattle.toc_rewrite.specs.inside.Uses.{rank, is_below, is_above, keeps, use_at, use_by, use_of}
+use Rattle.toc_rewrite.specs.inside.Uses.{is_below, is_above, keeps, use_at, use_by, use_of}
 
 module _ {X Y : Type 0} (p : Y → Bool) (f : X → List Y) where
   any_flat : (xs : List X) → list_any p (flat_map f xs) ≡ list_any (λ x. list_any p (f x)) xs

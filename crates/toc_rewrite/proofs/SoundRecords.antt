@@ -1,17 +1,17 @@
 -- What records have where none is refused: a kind, a word or eight bytes in their sections, and a target in one of the files.
-use Rattle.std.proofs.Common.{◌≡◌, ◌≢◌, ◌<◌, ◌≤◌, ℕ, ℤ, zero, suc, ◌+◌, Bool, true, false, not, ◌&&◌, List, length, Option, Some, None, sym, ap, ◌∙◌, subst, refl, arith, if◌then◌else◌}
+use Rattle.std.proofs.Common.{◌≡◌, ◌≢◌, ◌<◌, ◌≤◌, ℕ, ℤ, ◌+◌, Bool, true, false, not, List, length, Option, Some, None, sym, subst, refl, arith, if◌then◌else◌}
 use Rattle.std.specs.Prelude.{◌==◌, IsSome}
 use Rattle.std.proofs.lemmas.Bool.{and_parts}
 use Rattle.std.proofs.lemmas.Bool.Decides.{nat_tests}
-use Rattle.elf64_records.specs.Sections.{section_bytes, sh_size}
-use Rattle.elf64_records.specs.Symbols.{symbol_count, st_value}
+use Rattle.elf64_records.specs.Sections.{section_bytes}
+use Rattle.elf64_records.specs.Symbols.{st_value}
 use Rattle.object_set.specs.declared.places.RecordId.{RecordId}
 use Rattle.object_set.specs.declared.sort.Sort.{Sort}
 use Rattle.object_set.specs.declared.sort.Sort.TheVariants.{Text, Zeroed, Toc, Writable, ReadOnly, Dropped}
 use Rattle.object_set.specs.Files.{file_at}
 use Rattle.object_set.specs.Refusals.{set_refusal}
 use Rattle.object_set.specs.Sections.{is_text, sort_of}
-use Rattle.object_set.specs.Symbols.{name_of, is_local, is_weak, has_section, section_index, is_absolute, is_toc_base, index_of}
+use Rattle.object_set.specs.Symbols.{name_of, is_local, is_weak, section_index, is_absolute, is_toc_base}
 use Rattle.object_set.specs.Walks.{IsRecord}
 use Rattle.reloc_fields.specs.declared.kind.Kind.{Kind}
 use Rattle.reloc_fields.specs.declared.kind.Kind.TheVariants.{Toc16Ha, Toc16Lo, Toc16LoDs, Addr64}
@@ -29,9 +29,9 @@ use Rattle.symbol_table.specs.Sites.{rule_of, admits}
 use Rattle.symbol_table.specs.Targets.{plus_addend, section_target, index_target, own_target, named_target, external_target, target_of}
 use Rattle.symbol_table.specs.Text.{text_index}
 use Rattle.symbol_table.specs.laws.Definitions.{definition_placed}
-use Rattle.symbol_table.specs.laws.Records.{IsSoundRecord, IsSoundField, records_sound}
+use Rattle.symbol_table.specs.laws.Records.{IsSoundField, records_sound}
 use Rattle.symbol_table.specs.laws.Sections.{record_about, bytes_whole, text_stored}
-use Rattle.toc_rewrite.specs.Records.{facts_of, kind_of, goes, target_by, record_target}
+use Rattle.toc_rewrite.specs.Records.{facts_of, kind_of, goes}
 use Rattle.toc_rewrite.specs.Folds.{is_address, is_toc_sort}
 use Rattle.toc_rewrite.specs.inside.Laid.{IsTargetOf}
 use Rattle.toc_rewrite.specs.inside.Tables.{is_toc_user}
@@ -92,7 +92,8 @@ toc_stored = elim [ Toc ↦ λ toc zeroed. cc | _ ↦ λ toc. cc ]
 
 pub address_kind : (o : Option Kind) → is_address o ≡ true → o ≡ Some Addr64
 address_kind None is = cc
-address_kind (Some kind) is = elim kind as (λ k. is_address (Some k) ≡ true → Some k ≡ Some Addr64) [ Addr64 ↦ λ _. refl | _ ↦ λ no_address. cc ] is
+address_kind (Some kind) is =
+    elim kind as (λ k. is_address (Some k) ≡ true → Some k ≡ Some Addr64) [ Addr64 ↦ λ _. refl | _ ↦ λ no_address. cc ] is
 
 pub address_lies : (files : List (List ℕ)) (r : RecordId) → set_refusal files ≡ None → records_refusal files ≡ None →
     IsRecord files r → is_address (kind_of files r) ≡ true → is_toc_sort (sort_of (file_at files r.file) r.section) ≡ true →

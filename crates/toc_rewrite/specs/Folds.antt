@@ -1,6 +1,6 @@
 -- Which slots of the table of contents can be left out of a load, so that the code makes the address that the slot holds (ELFv2 ABI,
 -- 3.3 "TOC"): foldable slots of orderly files.
-use Rattle.std.specs.Prelude.{ℕ, ℤ, pos, neg_ℤ, ◌+◌, ◌%◌, ◌^◌, ◌-ℤ◌, ◌+ℤ◌, int_lt, Bool, true, false, not, List, ◌&&◌, ◌||◌, ◌==◌, nat_le, nat_lt, filter, Option, None, Some}
+use Rattle.std.specs.Prelude.{ℕ, ℤ, pos, neg_ℤ, ◌+◌, ◌%◌, ◌^◌, ◌-ℤ◌, ◌+ℤ◌, int_lt, Bool, true, false, not, List, ◌&&◌, ◌==◌, nat_le, nat_lt, filter, Option, None, Some}
 use Rattle.std.specs.Int.{cast_signed, w64}
 use Rattle.std.specs.List.{list_any}
 use Rattle.object_set.specs.declared.places.RecordId.{RecordId}

@@ -1,5 +1,5 @@
 -- What relocation records say: the word that a record stands on, where it goes, and whether it is of a prologue.
-use Rattle.std.specs.Prelude.{ℕ, ◌+◌, Bool, true, false, not, List, ◌&&◌, ◌==◌, Option, None, Some, if◌then◌else◌}
+use Rattle.std.specs.Prelude.{ℕ, Bool, not, List, ◌&&◌, ◌==◌, Option, None, Some, if◌then◌else◌}
 use Rattle.elf64_records.specs.Records.{RecordFacts, rela_of}
 use Rattle.object_set.specs.declared.places.RecordId.{RecordId}
 use Rattle.object_set.specs.Files.{file_at}

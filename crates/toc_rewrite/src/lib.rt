@@ -5,6 +5,7 @@
 mod folds;
 mod found;
 mod laid;
+mod laws;
 mod loads;
 mod orderly;
 mod records;
@@ -13,6 +14,7 @@ mod words;
 
 pub use folds::{Folds, foldable};
 pub use found::Slot;
+pub use laws::{halves_reach, rewritten_words_may_be, slots_are_only_loaded};
 pub use loads::TocRecord;
 pub use words::fold_word;
 

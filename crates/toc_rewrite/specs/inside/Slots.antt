@@ -8,7 +8,7 @@ use Rattle.toc_rewrite.specs.declared.found.Slot.{Slot}
 use Rattle.toc_rewrite.specs.declared.folds.SlotPlace.{SlotPlace}
 use Rattle.toc_rewrite.specs.declared.uses.SlotUse.{SlotUse}
 use Rattle.toc_rewrite.specs.Laid.{LaidFiles, base_of}
-use Rattle.toc_rewrite.specs.Records.{facts_of, record_target, all_records}
+use Rattle.toc_rewrite.specs.Records.{record_target, all_records}
 use Rattle.toc_rewrite.specs.Folds.{fills_slot, reaches}
 use Rattle.toc_rewrite.specs.Folded.{slot_of}
 use Rattle.toc_rewrite.specs.inside.Uses.{use_of, is_below, is_above}

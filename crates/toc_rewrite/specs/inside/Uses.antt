@@ -1,12 +1,10 @@
 -- What records use of the table of contents, while slots are judged.
-use Rattle.std.specs.Prelude.{◌≡◌, ℕ, ◌+◌, ◌*◌, ◌^◌, ◌≤◌, Bool, true, false, not, List, [], ◌∷◌, ◌++◌, ◌&&◌, ◌||◌, ◌==◌, nat_le, nat_lt, flat_map, Option, None, Some, if◌then◌else◌}
-use Rattle.std.specs.List.{list_any}
-use Rattle.std.specs.List.Sorted.{IsPermutation, IsNonDecreasingBy}
+use Rattle.std.specs.Prelude.{ℕ, ◌+◌, ◌*◌, ◌^◌, Bool, List, [], ◌∷◌, ◌&&◌, ◌||◌, nat_le, nat_lt, Option, None, Some, if◌then◌else◌}
 use Rattle.object_set.specs.declared.places.RecordId.{RecordId}
 use Rattle.toc_rewrite.specs.declared.uses.SlotUse.{SlotUse}
-use Rattle.toc_rewrite.specs.Laid.{LaidFiles, base_of}
-use Rattle.toc_rewrite.specs.Records.{facts_of, kind_of, word_at, record_target, record_number, is_of_prologue, all_records}
-use Rattle.toc_rewrite.specs.Folds.{fills_slot, reaches, slot_address, loads_only, needs_slot}
+use Rattle.toc_rewrite.specs.Laid.{LaidFiles}
+use Rattle.toc_rewrite.specs.Records.{kind_of, word_at, record_number, is_of_prologue}
+use Rattle.toc_rewrite.specs.Folds.{loads_only}
 
 -- a number that grows with the use's number and, at one number, with the file that only loads there
 abbrev pub loader_rank : Option ℕ → ℕ

@@ -1,10 +1,9 @@
 -- Two halves make a number again, one half makes a small one, and the halves tell the number.
-use Rattle.std.proofs.Common.{ℕ, ◌≡◌, ◌<◌, ◌^◌, ◌+◌, ◌*◌, ◌↔◌, Bool, true, false, not, ◌&&◌, ap, ◌∙◌, sym, subst, refl, arith}
-use Rattle.std.specs.Prelude.{ℤ, pos, neg_ℤ, ◌+ℤ◌, ◌-ℤ◌, ◌*ℤ◌, ◌<ℤ◌, ◌≤ℤ◌, int_lt}
+use Rattle.std.proofs.Common.{ℕ, ◌≡◌, ◌↔◌, Bool, true, false, not, ◌&&◌, ap, ◌∙◌, sym, refl, arith}
+use Rattle.std.specs.Prelude.{ℤ, pos, neg_ℤ, ◌+ℤ◌, ◌*ℤ◌, int_lt}
 use Rattle.std.proofs.lemmas.Int.{ints}
-use Rattle.std.specs.Int.{int_div_euclid}
 use Rattle.ppc_bytes.specs.Bytes.{InSigned}
-use Rattle.ppc_bytes.specs.Halves.{low_of, signed_of, lo, hi, ha, whole_ha, IsSmall}
+use Rattle.ppc_bytes.specs.Halves.{signed_of, lo, ha, whole_ha, IsSmall}
 use Rattle.ppc_bytes.specs.laws.Halves.{low_of-rest, low_of-lt, ha-lo, ha-low_of, signed_of-low_of, signed_of-InSigned, low_of-signed_of, small-lo, small-whole_ha}
 use Rattle.toc_rewrite.specs.Words.{is_small}
 

@@ -10,7 +10,7 @@ use Rattle.reloc_fields.specs.declared.kind.Kind.TheVariants.{Toc16Ha, Toc16Lo, 
 use Rattle.reloc_fields.specs.Table.{line_of, Passes}
 use Rattle.toc_rewrite.specs.declared.loads.TocRecord.{TocRecord}
 use Rattle.toc_rewrite.specs.declared.words.TheConstants.{TOC_REGISTER}
-use Rattle.toc_rewrite.specs.Words.{suits, only_loads, is_ld, base_register, is_small, IsRewritten, IsHigh, IsLow, IsLowDs, IsSmallLoad}
+use Rattle.toc_rewrite.specs.Words.{suits, only_loads, is_ld, base_register, is_small, IsRewritten}
 use Rattle.toc_rewrite.specs.Uses.{is_toc_load, number_by, number_of, folds_slot, is_folded_load, rewrites_word, is_rewritten}
 
 -- what a file and its foldable slots give for a record: an orderly file has suiting words alone; a slot that is named is only loaded, and

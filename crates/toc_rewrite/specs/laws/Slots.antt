@@ -1,7 +1,6 @@
 -- What is so of foldable slots: the records that go into one only load it, and what is looked up is one.
-use Rattle.std.proofs.Common.{◌≡◌, ◌<◌, ◌≤◌, ℕ, zero, suc, ◌+◌, Bool, true, false, not, ◌&&◌, ◌||◌, eqb, List, [], ◌∷◌, map, filter, length, Option, Some, None, sym, ap, ◌∙◌, subst, refl, arith, if◌then◌else◌}
-use Rattle.std.specs.List.{list_any, slice_index_or, All, Contains}
-use Rattle.std.specs.List.Sorted.{IsPermutation}
+use Rattle.std.proofs.Common.{◌≡◌, ◌<◌, ℕ, zero, suc, Bool, true, false, not, ◌&&◌, ◌||◌, eqb, List, [], ◌∷◌, map, filter, length, Option, Some, sym, ap, ◌∙◌, subst, refl, arith, if◌then◌else◌}
+use Rattle.std.specs.List.{list_any, slice_index_or, All}
 use Rattle.std.proofs.lemmas.Bool.{and_parts}
 use Rattle.std.proofs.lemmas.List.Sorted.{list_any-IsPermutation, Contains-permutation, IsPermutation-sym}
 use Rattle.object_set.specs.declared.places.RecordId.{RecordId}
@@ -11,9 +10,9 @@ use Rattle.reloc_fields.specs.declared.kind.Kind.{Kind}
 use Rattle.reloc_fields.specs.declared.kind.Kind.TheVariants.{Toc16Lo}
 use Rattle.toc_rewrite.specs.declared.found.Slot.{Slot}
 use Rattle.toc_rewrite.specs.Laid.{LaidFiles, base_of}
-use Rattle.toc_rewrite.specs.Records.{facts_of, kind_of, word_at, record_target, record_number, is_of_prologue, all_records}
+use Rattle.toc_rewrite.specs.Records.{kind_of, word_at, record_target, record_number, is_of_prologue, all_records}
 use Rattle.toc_rewrite.specs.Folds.{is_orderly, fills_slot, fills_alone, reaches, slot_address, lies_in, is_number, loads_only, only_loads_slot, needs_slot, fills_foldable, slot_records}
-use Rattle.toc_rewrite.specs.Folded.{FoldedSlots, slot_of, is_slot_named, IsNamed, IsNamedSlot, AreFolds}
+use Rattle.toc_rewrite.specs.Folded.{FoldedSlots, slot_of, is_slot_named, IsNamedSlot, AreFolds}
 use Rattle.toc_rewrite.specs.laws.Entries.{record_passes}
 
 -- the parts of what makes a slot foldable

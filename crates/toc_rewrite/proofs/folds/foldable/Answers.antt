@@ -5,7 +5,6 @@ use Rattle.std.specs.List.Sorted.{IsPermutation}
 use Rattle.std.proofs.lemmas.List.{length-map}
 use Rattle.std.proofs.lemmas.List.FromFn.{length-range_with_len}
 use Rattle.object_set.specs.Refusals.{set_refusal}
-use Rattle.toc_rewrite.specs.declared.found.Slot.{Slot}
 use Rattle.toc_rewrite.specs.declared.uses.SlotUse.{SlotUse}
 use Rattle.toc_rewrite.specs.Laid.{LaidFiles, laid_files}
 use Rattle.toc_rewrite.specs.Records.{all_records}

@@ -1,5 +1,5 @@
 -- loop-file-preserved: one file more. returns: all files.
-use Rattle.std.proofs.Common.{◌≡◌, ◌≤◌, ◌+◌, ◌*◌, ◌^◌, ℕ, List, slice_index, length, sym, ap, ◌∙◌, subst, arith}
+use Rattle.std.proofs.Common.{◌≤◌, ◌+◌, ◌*◌, ◌^◌, ℕ, List, slice_index, sym, ap, ◌∙◌, subst, arith}
 use Rattle.elf64_records.specs.FileHeader.{e_shnum}
 use Rattle.object_set.specs.Walks.{section_walk, index_of}
 use Rattle.toc_rewrite.proofs.Sections.{map_more, first_more, bounded_more}

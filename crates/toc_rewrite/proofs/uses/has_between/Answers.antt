@@ -1,5 +1,4 @@
 -- returns: uses stand between the bounds where more come before the second one.
-use Rattle.std.proofs.Common.{◌≡◌, sym, ap, ◌∙◌}
 use Rattle.toc_rewrite.specs.inside.Uses.{rank}
 use Rattle.toc_rewrite.proofs.Windows.{between}
 use Rattle.toc_rewrite.proofs.uses.has_between.Goals as goal

@@ -1,6 +1,6 @@
 -- returns: the first slot that doesn't come before the place lies there, if any does.
-use Rattle.std.proofs.Common.{◌≡◌, ◌<◌, ◌≤◌, ℕ, List, length, sym, ap, ◌∙◌, subst, rules, arith}
-use Rattle.std.specs.List.{list_any, slice_index_or}
+use Rattle.std.proofs.Common.{◌≡◌, ◌<◌, ◌≤◌, List, length, sym, ap, ◌∙◌, subst, rules, arith}
+use Rattle.std.specs.List.{slice_index_or}
 use Rattle.std.specs.List.Sorted.{IsNonDecreasingBy}
 use Rattle.symbol_table.proofs.PlaceOrder.{IsSplit, split_point, before_point, after_point}
 use Rattle.toc_rewrite.specs.declared.found.Slot.{Slot}

@@ -1,11 +1,11 @@
 -- returns: the first slot that doesn't come before the name has it, if any does.
-use Rattle.std.proofs.Common.{◌≡◌, ◌<◌, ◌≤◌, ℕ, Bool, true, false, List, length, sym, ap, ◌∙◌, subst, rules, arith}
+use Rattle.std.proofs.Common.{◌≡◌, ◌<◌, ◌≤◌, ℕ, false, List, length, sym, ap, ◌∙◌, subst, rules, arith}
 use Rattle.std.specs.List.{list_any, slice_index_or, Contains}
 use Rattle.std.specs.List.Sorted.{IsPermutation, IsNonDecreasingBy}
 use Rattle.std.proofs.lemmas.List.Sorted.{list_any-IsPermutation, Contains-permutation, IsPermutation-sym}
 use Rattle.symbol_table.proofs.PlaceOrder.{IsSplit, split_point, before_point, after_point}
 use Rattle.toc_rewrite.specs.declared.found.Slot.{Slot}
-use Rattle.toc_rewrite.specs.Folded.{FoldedSlots, is_slot_named, IsNamedSlot}
+use Rattle.toc_rewrite.specs.Folded.{FoldedSlots, is_slot_named}
 use Rattle.toc_rewrite.specs.inside.Slots.{name_rank}
 use Rattle.toc_rewrite.proofs.SlotPlaces.{named_at, none_there, first_there, name_exact, name_own, name_parts}
 use Rattle.toc_rewrite.proofs.folds.Folds.named.Goals as goal

@@ -1,11 +1,10 @@
 -- returns: a record that doesn't suit stands among those of the section. loop-entry-preserved: one record more.
-use Rattle.std.proofs.Common.{◌≡◌, ◌<◌, Bool, true, false, not, List, ℕ, sym, ap, ◌∙◌, subst, arith}
-use Rattle.std.specs.List.{list_any}
+use Rattle.std.proofs.Common.{◌≡◌, true, not, List, ℕ, sym, ap, ◌∙◌, arith}
 use Rattle.elf64_records.specs.Records.{record_count}
 use Rattle.elf64_records.specs.Sections.{sh_info}
 use Rattle.object_set.specs.declared.places.RecordId.{RecordId}
 use Rattle.object_set.specs.Files.{file_at}
-use Rattle.object_set.specs.Walks.{record_id, records_in}
+use Rattle.object_set.specs.Walks.{record_id}
 use Rattle.toc_rewrite.specs.inside.Tables.{is_unsuited_record}
 use Rattle.toc_rewrite.specs.laws.Entries.{entry_passes, entry_more, not_true, not_false}
 use Rattle.toc_rewrite.proofs.laid.Laid.is_orderly_table.Goals as goal

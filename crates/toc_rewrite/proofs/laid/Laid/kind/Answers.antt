@@ -1,6 +1,5 @@
 -- returns: a record that isn't refused has a kind.
-use Rattle.std.proofs.Common.{◌≡◌, None, subst, ap, ◌∙◌, sym}
-use Rattle.std.specs.Prelude.{IsSome}
+use Rattle.std.proofs.Common.{None, ap, ◌∙◌, sym}
 use Rattle.symbol_table.specs.Fields.{kind_numbered}
 use Rattle.toc_rewrite.proofs.SoundRecords.{record_kind}
 use Rattle.toc_rewrite.proofs.laid.Laid.kind.Goals as goal

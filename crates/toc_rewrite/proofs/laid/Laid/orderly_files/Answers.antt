@@ -1,5 +1,4 @@
 -- loop-file-preserved: one file more.
-use Rattle.std.proofs.Common.{◌≡◌, Bool, ℕ, sym, ap, ◌∙◌}
 use Rattle.toc_rewrite.specs.Folds.{is_orderly}
 use Rattle.toc_rewrite.proofs.Sections.{map_more}
 use Rattle.toc_rewrite.proofs.laid.Laid.orderly_files.Goals as goal

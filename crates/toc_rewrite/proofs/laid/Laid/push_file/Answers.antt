@@ -1,5 +1,5 @@
 -- loop-table-preserved: one section more. returns: all sections.
-use Rattle.std.proofs.Common.{◌≡◌, List, ℕ, sym, ap, ◌∙◌, subst, arith}
+use Rattle.std.proofs.Common.{◌≡◌, List, ℕ, ap, ◌∙◌, subst, arith}
 use Rattle.elf64_records.specs.FileHeader.{e_shnum}
 use Rattle.object_set.specs.Files.{file_at}
 use Rattle.object_set.specs.Walks.{items_in, record_walk}

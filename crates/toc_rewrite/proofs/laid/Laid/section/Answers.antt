@@ -1,6 +1,5 @@
 -- returns: what a record is about is a kept section of its file.
-use Rattle.std.proofs.Common.{◌≡◌, List, ℕ, None, sym, ap, ◌∙◌, subst}
-use Rattle.object_set.specs.Files.{file_at}
+use Rattle.std.proofs.Common.{◌≡◌, None, sym, ap, ◌∙◌}
 use Rattle.object_set.specs.Refusals.{set_refusal}
 use Rattle.symbol_table.specs.laws.Sections.{record_about}
 use Rattle.toc_rewrite.proofs.laid.Laid.section.Goals as goal

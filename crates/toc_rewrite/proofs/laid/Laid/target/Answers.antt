@@ -1,5 +1,5 @@
 -- target-requires: the record goes somewhere. returns: to one of the files.
-use Rattle.std.proofs.Common.{◌≡◌, rules, List, ℕ, ℤ, sym, ap, ◌∙◌, subst, to_z, of_z, w64}
+use Rattle.std.proofs.Common.{◌≡◌, rules, List, ℕ, sym, ap, ◌∙◌, subst, to_z, of_z, w64}
 use Rattle.std.specs.Prelude.{IsSome, FitsSigned}
 use Rattle.symbol_table.specs.Targets.{target_of}
 use Rattle.std.proofs.lemmas.Int.{to_z-of_z}

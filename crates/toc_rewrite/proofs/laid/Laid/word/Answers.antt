@@ -1,5 +1,5 @@
 -- word_at-requires: the word lies in the section.
-use Rattle.std.proofs.Common.{◌≡◌, List, ℕ, None, length, sym, ap, ◌∙◌, arith}
+use Rattle.std.proofs.Common.{◌≡◌, None, length, sym, ap, ◌∙◌, arith}
 use Rattle.object_set.specs.Refusals.{set_refusal}
 use Rattle.toc_rewrite.proofs.SoundRecords.{word_lies}
 use Rattle.toc_rewrite.proofs.laid.Laid.word.Goals as goal

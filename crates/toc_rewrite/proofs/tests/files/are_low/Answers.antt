@@ -1,5 +1,5 @@
 -- returns: so are all, and past the end there are none.
-use Rattle.std.proofs.Common.{◌≡◌, ◌<◌, ◌≤◌, ℕ, zero, suc, List, [], ◌∷◌, length, slice_index, arith, inl, inr, subst, sym}
+use Rattle.std.proofs.Common.{◌<◌, ◌≤◌, ℕ, zero, suc, List, [], ◌∷◌, length, slice_index, arith, inl, inr}
 use Rattle.std.proofs.lemmas.Bool.{cases_lt}
 use Rattle.toc_rewrite.specs.declared.laid.TheConstants.{ADDRESS_END}
 use Rattle.toc_rewrite.proofs.tests.files.are_low.Goals as goal
