@@ -1,3 +1,4 @@
 pub mod laws
 pub mod Meaning
+pub mod ShortForms
 pub mod Table

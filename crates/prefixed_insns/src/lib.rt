@@ -7,6 +7,7 @@ pub mod encoding;
 pub mod instruction;
 pub mod laws;
 pub mod plan;
+pub mod short_forms;
 #[cfg(test)]
 mod tests;
 
@@ -14,3 +15,4 @@ pub use decoding::decode_pair;
 pub use encoding::encode_pair;
 pub use instruction::{PInsn, POp};
 pub use plan::plan_for_pair;
+pub use short_forms::{ShortForm, as_prefixed, short_form};

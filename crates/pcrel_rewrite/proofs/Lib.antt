@@ -1,0 +1,2 @@
+mod PairWords
+mod Sought

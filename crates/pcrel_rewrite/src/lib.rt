@@ -1,0 +1,11 @@
+// Pairs of a load of an address and an access through it, of which a link makes one instruction (ELFv2 ABI, "Relocation Descriptions":
+// R_PPC64_PCREL_OPT and R_PPC64_GOT_PCREL34), and the words of pc-relative loads that are rewritten.
+#![tactic(auto)]
+
+mod order;
+mod pairs;
+mod rewriting;
+mod words;
+
+pub use pairs::{Pairs, TextPair};
+pub use rewriting::{rewrite_got, rewrite_pair};
