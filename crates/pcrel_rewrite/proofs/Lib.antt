@@ -1,2 +1,5 @@
+mod Definitions
+mod Gathering
+mod Joining
 mod PairWords
 mod Sought

@@ -1,3 +1,5 @@
 -- Words of private contracts.
+pub mod Gathered
+pub mod Joins
 pub mod Order
 pub mod Words

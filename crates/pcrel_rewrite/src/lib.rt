@@ -2,6 +2,7 @@
 // R_PPC64_PCREL_OPT and R_PPC64_GOT_PCREL34), and the words of pc-relative loads that are rewritten.
 #![tactic(auto)]
 
+mod gathered;
 mod order;
 mod pairs;
 mod rewriting;

@@ -118,7 +118,7 @@ fn all_are_passed(bytes: &[u8], from: usize, count: usize, uses: Uses) -> bool
 }
 
 /// Whether the words at two places are a load of an address and an access that can become one instruction.
-fn are_pair_words(bytes: &[u8], head: usize, tail: usize) -> bool
+pub fn are_pair_words(bytes: &[u8], head: usize, tail: usize) -> bool
     requires near { IsNear head tail }
     requires within { tail + 4 ≤ length bytes.now }
     ensures { IsTrue result ↔ ArePairWords bytes.now head tail }
