@@ -3,3 +3,4 @@ mod Gathering
 mod Joining
 mod PairWords
 mod Sought
+mod Tables

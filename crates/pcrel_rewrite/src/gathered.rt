@@ -2,7 +2,7 @@
 ghost use Rattle.std.specs.Prelude.{◌≡◌, ◌<◌, ◌-◌, ◌==◌, ℕ, pos, IfOk, IfSome, IfNone, OnOk, length};
 ghost use Rattle.elf64_records.specs.FileHeader.{e_shnum};
 ghost use Rattle.elf64_records.specs.Records.{rela_of, record_count};
-ghost use Rattle.elf64_records.specs.Sections.{section_bytes};
+ghost use Rattle.elf64_records.specs.Sections.{section_bytes, sh_info};
 ghost use Rattle.elf64_records.specs.Symbols.{symbol_count};
 ghost use Rattle.object_set.specs.Files.{file_at};
 ghost use Rattle.object_set.specs.Walks.{IsRecord};
@@ -12,7 +12,7 @@ ghost use Rattle.symbol_table.specs.Text.{text_number};
 ghost use Rattle.pcrel_rewrite.specs.Pairs.{is_number};
 ghost use Rattle.pcrel_rewrite.specs.Words.{ArePairWords};
 ghost use Rattle.pcrel_rewrite.specs.inside.Joins.{Before};
-ghost use Rattle.pcrel_rewrite.specs.inside.Gathered.{IsAskedBy, IsLoadBy, Gathers, AskedIn, LoadedIn};
+ghost use Rattle.pcrel_rewrite.specs.inside.Gathered.{IsAskedBy, IsLoadBy, Gathers, AskedIn, LoadedIn, IsGathered};
 
 use crate::pairs::TextPair;
 use crate::words::are_pair_words;
@@ -106,5 +106,72 @@ impl Gathered {
             })?;
         }
         Ok(())
+    }
+
+    /// Takes in what the records of a text section ask for that a section holds.
+    fn add_records(
+        &mut self,
+        resolved: &Resolved,
+        file: u32,
+        table: u32,
+        section: u32,
+        number: u32,
+    ) -> Result<(), AllocError>
+        requires file { file < length resolved.now.files }
+        requires table { table < e_shnum (file_at resolved.now.files file) }
+        requires about { section ≡ sh_info (file_at resolved.now.files file) table }
+        requires section { section < e_shnum (file_at resolved.now.files file) }
+        requires text { text_number resolved.now.files file section ≡ Some number }
+        ensures { let files = resolved.now.files in
+            OnOk result (Gathers (AskedIn files file table) (LoadedIn files file table) self.old self.new) }
+    {
+        let view = resolved.set().view(file);
+        let bytes = view.section(section).bytes;
+        for entry in 0..view.record_count(table) {
+            let id = RecordId {
+                file,
+                table,
+                entry,
+                section,
+            };
+            self.add_record(resolved, id, number, bytes)?;
+        }
+        Ok(())
+    }
+
+    /// Takes in what the records ask for that a section holds, if they are about text.
+    fn add_table(&mut self, resolved: &Resolved, file: u32, table: u32) -> Result<(), AllocError>
+        requires file { file < length resolved.now.files }
+        requires table { table < e_shnum (file_at resolved.now.files file) }
+        ensures { let files = resolved.now.files in
+            OnOk result (Gathers (AskedIn files file table) (LoadedIn files file table) self.old self.new) }
+    {
+        let set = resolved.set();
+        // no file of a set is refused, so that what records are about is a section of their file
+        let _files = set.file_count();
+        let view = set.view(file);
+        if view.record_count(table) == 0 {
+            return Ok(());
+        }
+        let section = view.section_header(table).info;
+        match resolved.text_number(file, section) {
+            Some(number) => self.add_records(resolved, file, table, section, number),
+            None => Ok(()),
+        }
+    }
+
+    /// What the records of a file ask for.
+    pub fn of_file(alloc: Global, resolved: &Resolved, file: u32) -> Result<Gathered, AllocError>
+        requires { file < length resolved.now.files }
+        ensures { IfOk result (IsGathered resolved.now.files file) }
+    {
+        let mut gathered = Gathered {
+            asked: Vec::new(alloc),
+            loads: Vec::new(alloc),
+        };
+        for table in 0..resolved.set().view(file).section_count() {
+            gathered.add_table(resolved, file, table)?;
+        }
+        Ok(gathered)
     }
 }

@@ -1,5 +1,5 @@
 -- What the records of a file ask for, while it is gathered.
-use Rattle.std.specs.Prelude.{◌≡◌, ℕ, pos, ◌-◌, false, List, Some}
+use Rattle.std.specs.Prelude.{◌≡◌, ℕ, pos, ◌-◌, false, List, [], Some}
 use Rattle.elf64_records.specs.FileHeader.{e_shnum}
 use Rattle.elf64_records.specs.Records.{record_count, rela_of}
 use Rattle.elf64_records.specs.Sections.{section_bytes}
@@ -51,3 +51,8 @@ AskedIn files file i = Before (AskedAt files file i) (record_count (file_at file
 
 abbrev pub LoadedIn : List (List ℕ) → ℕ → ℕ → CodePlace → Type 0
 LoadedIn files file i = Before (LoadedAt files file i) (record_count (file_at files file) i)
+
+-- what the records of a file ask for and load
+pub record IsGathered (files : List (List ℕ)) (file : ℕ) (g : Gathered) : Type 0 where
+  pub asked_are : Joins (Before (AskedIn files file) (e_shnum (file_at files file))) [] g.asked.items
+  pub loads_are : Joins (Before (LoadedIn files file) (e_shnum (file_at files file))) [] g.loads.items
