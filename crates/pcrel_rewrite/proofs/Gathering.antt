@@ -9,7 +9,7 @@ use Rattle.reloc_fields.specs.Table.{line_of}
 use Rattle.symbol_table.specs.declared.target.CodePlace.{CodePlace}
 use Rattle.symbol_table.specs.Text.{text_number}
 use Rattle.pcrel_rewrite.specs.declared.gathered.Gathered.{Gathered}
-use Rattle.pcrel_rewrite.specs.declared.pairs.TextPair.{TextPair}
+use Rattle.pcrel_rewrite.specs.declared.text_pairs.TextPair.{TextPair}
 use Rattle.pcrel_rewrite.specs.TextPairs.{text_pair}
 use Rattle.pcrel_rewrite.specs.inside.Joins.{Joins, Before}
 use Rattle.pcrel_rewrite.specs.inside.Gathered.{IsAskedBy, IsLoadBy, Gathers}

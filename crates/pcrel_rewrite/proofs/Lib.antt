@@ -1,6 +1,11 @@
 mod Definitions
+mod FilePairs
+mod FoundPairs
+mod FreePairs
 mod Gathering
 mod Joining
+mod Lengths
 mod PairWords
 mod Sought
 mod Tables
+mod TakenPairs

@@ -16,7 +16,7 @@ use Rattle.reloc_fields.specs.Table.{line_of}
 use Rattle.symbol_table.specs.Fields.{fields_of, meets}
 use Rattle.symbol_table.specs.Targets.{definition_of}
 use Rattle.symbol_table.specs.Text.{text_sections}
-use Rattle.pcrel_rewrite.specs.declared.pairs.TextPair.{TextPair}
+use Rattle.pcrel_rewrite.specs.declared.text_pairs.TextPair.{TextPair}
 use Rattle.pcrel_rewrite.specs.Words.{ArePairWords}
 
 -- a relocation record of a kind about an offset of a section

@@ -1,6 +1,6 @@
 -- Pairs of text sections.
 use Rattle.std.specs.Prelude.{ℕ}
-use Rattle.pcrel_rewrite.specs.declared.pairs.TextPair.{TextPair}
+use Rattle.pcrel_rewrite.specs.declared.text_pairs.TextPair.{TextPair}
 
 -- the pair of a text section with these ends
 abbrev pub text_pair : ℕ → ℕ → ℕ → TextPair

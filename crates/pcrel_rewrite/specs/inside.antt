@@ -2,4 +2,5 @@
 pub mod Gathered
 pub mod Joins
 pub mod Order
+pub mod Recognised
 pub mod Words

@@ -14,7 +14,7 @@ ghost use Rattle.pcrel_rewrite.specs.Words.{ArePairWords};
 ghost use Rattle.pcrel_rewrite.specs.inside.Joins.{Before};
 ghost use Rattle.pcrel_rewrite.specs.inside.Gathered.{IsAskedBy, IsLoadBy, Gathers, AskedIn, LoadedIn, IsGathered};
 
-use crate::pairs::TextPair;
+use crate::text_pairs::TextPair;
 use crate::words::are_pair_words;
 use object_set::RecordId;
 use reloc_fields::{Kind, kind_of};

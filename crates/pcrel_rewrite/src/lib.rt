@@ -4,9 +4,11 @@
 
 mod gathered;
 mod order;
-mod pairs;
+mod recognised;
 mod rewriting;
+mod text_pairs;
 mod words;
 
-pub use pairs::{Pairs, TextPair};
+pub use recognised::pairs;
 pub use rewriting::{rewrite_got, rewrite_pair};
+pub use text_pairs::{Pairs, TextPair};

@@ -13,7 +13,7 @@ use Rattle.symbol_table.specs.declared.target.CodePlace.{CodePlace}
 use Rattle.symbol_table.specs.Targets.{definition_of}
 use Rattle.symbol_table.specs.Text.{text_number}
 use Rattle.pcrel_rewrite.specs.declared.gathered.Gathered.{Gathered}
-use Rattle.pcrel_rewrite.specs.declared.pairs.TextPair.{TextPair}
+use Rattle.pcrel_rewrite.specs.declared.text_pairs.TextPair.{TextPair}
 use Rattle.pcrel_rewrite.specs.Pairs.{is_number}
 use Rattle.pcrel_rewrite.specs.Words.{ArePairWords}
 use Rattle.pcrel_rewrite.specs.inside.Joins.{Joins, Before}

@@ -11,3 +11,9 @@ pub record Joins {X : Type 0} (P : X → Type 0) (old new : List X) : Type 0 whe
 -- one of the first n facts holds
 abbrev pub Before : {X : Type 0} → (ℕ → X → Type 0) → ℕ → X → Type 0
 Before P n x = (k : ℕ) × (k < n) × P k x
+
+-- what something holds of is taken in, but where it is known to be there already
+pub record TakesIn {X : Type 0} (P : X → Type 0) (known : Type 0) (old new : List X) : Type 0 where
+  pub kept : (x : X) → Contains old x → Contains new x
+  pub taken : (x : X) → P x → Contains new x ⊎ known
+  pub only : (x : X) → Contains new x → Contains old x ⊎ P x

@@ -2,7 +2,7 @@
 use Rattle.std.specs.Prelude.{◌≡◌, ℕ, ◌+◌, ◌*◌, ◌^◌, List}
 use Rattle.std.specs.List.Sorted.{IsPermutation, IsNonDecreasingBy}
 use Rattle.symbol_table.specs.declared.target.CodePlace.{CodePlace}
-use Rattle.pcrel_rewrite.specs.declared.pairs.TextPair.{TextPair}
+use Rattle.pcrel_rewrite.specs.declared.text_pairs.TextPair.{TextPair}
 
 -- a number that grows with the section and, in a section, with the offset
 abbrev pub rank : CodePlace → ℕ

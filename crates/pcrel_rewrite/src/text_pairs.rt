@@ -72,7 +72,7 @@ pub struct Pairs {
 
 impl Model for Pairs {
     ghost use Rattle.std.specs.Prelude.{List};
-    ghost use Rattle.pcrel_rewrite.specs.declared.pairs.TextPair.{TextPair};
+    ghost use Rattle.pcrel_rewrite.specs.declared.text_pairs.TextPair.{TextPair};
     ghost use Rattle.pcrel_rewrite.specs.inside.Order.{AreSortedPairs};
 
     ghost Value = { List TextPair };
@@ -83,7 +83,7 @@ impl Model for Pairs {
 }
 
 /// Puts pairs in order of their loads.
-fn sort_heads(pairs: &mut Vec<TextPair>)
+pub fn sort_heads(pairs: &mut Vec<TextPair>)
     ensures same { IsPermutation pairs.old.items pairs.new.items }
     ensures sorted { IsNonDecreasingBy head_rank pairs.new.items }
 {

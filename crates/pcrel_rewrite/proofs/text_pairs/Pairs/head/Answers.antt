@@ -3,11 +3,11 @@ use Rattle.std.specs.List.{Contains, slice_index_or}
 use Rattle.std.specs.List.Sorted.{IsNonDecreasingBy}
 use Rattle.symbol_table.specs.declared.target.CodePlace.{CodePlace}
 use Rattle.symbol_table.proofs.PlaceOrder.{IsSplit, split_point}
-use Rattle.pcrel_rewrite.specs.declared.pairs.TextPair.{TextPair}
+use Rattle.pcrel_rewrite.specs.declared.text_pairs.TextPair.{TextPair}
 use Rattle.pcrel_rewrite.specs.TextPairs.{text_pair}
 use Rattle.pcrel_rewrite.specs.inside.Order.{rank, head_of, head_rank}
 use Rattle.pcrel_rewrite.proofs.Sought.{none_sought, rank_sought, same_place}
-use Rattle.pcrel_rewrite.proofs.pairs.Pairs.head.Goals as goal
+use Rattle.pcrel_rewrite.proofs.text_pairs.Pairs.head.Goals as goal
 
 abbrev place : ℕ → ℕ → CodePlace
 place section offset = record { section = section; offset = offset }

@@ -1,7 +1,7 @@
 use Rattle.std.proofs.Common.{rules}
 use Rattle.std.proofs.lemmas.List.Sorted.{IsNonDecreasingBy-from_sort_by}
 use Rattle.pcrel_rewrite.specs.inside.Order.{head_rank}
-use Rattle.pcrel_rewrite.proofs.pairs.sort_heads.Goals as goal
+use Rattle.pcrel_rewrite.proofs.text_pairs.sort_heads.Goals as goal
 
 -- a sort by the order of the heads' places puts them in order
 pub returns-clause-sorted : goal.returns-clause-sorted

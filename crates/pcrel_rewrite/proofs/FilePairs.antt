@@ -1,0 +1,254 @@
+-- What is asked for and loaded in a file, and what is recognised there.
+use Rattle.std.proofs.Common.{◌≡◌, ◌<◌, ◌≤◌, ◌+◌, ◌-◌, ◌^◌, ◌⊎◌, inl, inr, ℕ, pos, zero, suc, Bool, true, false, List, [], ◌∷◌, Option, None, Some, slice_get, length, take, drop, sym, ap, ◌∙◌, subst, refl, arith, if◌then◌else◌}
+use Rattle.std.specs.List.{Contains, list_any, slice_index_or}
+use Rattle.std.specs.List.Sorted.{IsPermutation}
+use Rattle.std.proofs.lemmas.List.Sorted.{Contains-permutation, IsPermutation-sym}
+use Rattle.std.proofs.lemmas.Option.{slice_get_within}
+use Rattle.elf64_records.specs.FileHeader.{e_shnum}
+use Rattle.elf64_records.specs.Records.{record_count, rela_of}
+use Rattle.elf64_records.specs.Sections.{sh_info, section_bytes}
+use Rattle.object_set.specs.declared.places.RecordId.{RecordId}
+use Rattle.object_set.specs.declared.places.SectionId.{SectionId}
+use Rattle.object_set.specs.Files.{file_at}
+use Rattle.object_set.specs.Refusals.{set_refusal}
+use Rattle.object_set.specs.Sections.{is_text}
+use Rattle.object_set.specs.Walks.{IsRecord, record_id}
+use Rattle.reloc_fields.specs.declared.kind.Kind.TheVariants.{GotPcrel34, PcrelOpt}
+use Rattle.reloc_fields.specs.Table.{line_of}
+use Rattle.symbol_table.specs.Fields.{fields_of, meets}
+use Rattle.symbol_table.specs.Targets.{definition_of}
+use Rattle.symbol_table.specs.declared.target.CodePlace.{CodePlace}
+use Rattle.symbol_table.specs.Text.{text_sections, text_index, text_number}
+use Rattle.symbol_table.specs.laws.Text.{text_index_found, text_section_at, text_number_at}
+use Rattle.pcrel_rewrite.specs.declared.text_pairs.TextPair.{TextPair}
+use Rattle.pcrel_rewrite.specs.Pairs.{is_number, IsRecordAt, IsLoadAt, IsAsked, IsPair, IsRecognised, ArePairs}
+use Rattle.pcrel_rewrite.specs.Words.{ArePairWords}
+use Rattle.pcrel_rewrite.specs.inside.Gathered.{IsAskedBy, IsLoadBy, AskedIn, LoadedIn, AskedAt}
+use Rattle.pcrel_rewrite.specs.inside.Joins.{Joins, Before}
+use Rattle.pcrel_rewrite.specs.inside.Order.{head_of}
+use Rattle.pcrel_rewrite.specs.inside.Recognised.{AskedOf, LoadedOf, IsFree, IsTaken, TakenAt, IsRecognisedIn}
+use Rattle.pcrel_rewrite.proofs.Gathering.{some_is}
+use Rattle.pcrel_rewrite.proofs.Tables.{about_within}
+
+abbrev section : ℕ → ℕ → SectionId
+section file i = record { file = file; section = i }
+
+number_case : (files : List (List ℕ)) (file i k : ℕ) (t : Bool) → is_text (file_at files file) i ≡ t →
+    (if t then Some (text_index files file i) else None) ≡ Some k → (is_text (file_at files file) i ≡ true) × (text_index files file i ≡ k)
+number_case files file i k true is number = (is, some_is (text_index files file i) k number)
+number_case files file i k false is number = cc
+
+-- a section with a number among the text sections stands there
+numbered : (files : List (List ℕ)) (file i k : ℕ) → file < length files → i < e_shnum (file_at files file) →
+    text_number files file i ≡ Some k → slice_get (text_sections files) k ≡ Some (section file i)
+numbered files file i k file_in within number =
+    let parts = number_case files file i k (is_text (file_at files file) i) refl number in
+    subst (λ (n : ℕ). slice_get (text_sections files) n ≡ Some (section file i)) parts.1
+    (text_index_found files file i file_in within parts.0)
+
+-- what a record asks for and loads, where its file's number stands apart
+record IsAskedIn (files : List (List ℕ)) (file : ℕ) (r : RecordId) (pair : TextPair) : Type 0 where
+  kind_is : (rela_of (file_at files file) r.table r.entry).kind ≡ (line_of PcrelOpt).number
+  head_is : (rela_of (file_at files file) r.table r.entry).offset ≡ pair.head
+  distance : (rela_of (file_at files file) r.table r.entry).addend ≡ pos (pair.tail - pair.head)
+  words : ArePairWords (section_bytes (file_at files file) r.section) pair.head pair.tail
+
+asked_in : (files : List (List ℕ)) (r : RecordId) (pair : TextPair) → IsAskedBy files r pair → IsAskedIn files r.file r pair
+asked_in files r pair by = record { kind_is = by.kind_is; head_is = by.head_is; distance = by.distance; words = by.words }
+
+record IsLoadedIn (files : List (List ℕ)) (file : ℕ) (r : RecordId) (place : CodePlace) : Type 0 where
+  kind_is : (rela_of (file_at files file) r.table r.entry).kind ≡ (line_of GotPcrel34).number
+  offset_is : (rela_of (file_at files file) r.table r.entry).offset ≡ place.offset
+  address : is_number files (definition_of files file (rela_of (file_at files file) r.table r.entry).symbol) ≡ false
+
+loaded_in : (files : List (List ℕ)) (r : RecordId) (place : CodePlace) → IsLoadBy files r place → IsLoadedIn files r.file r place
+loaded_in files r place by = record { kind_is = by.kind_is; offset_is = by.offset_is; address = by.address }
+
+module _ (files : List (List ℕ)) (file : ℕ) (whole : set_refusal files ≡ None) (file_in : file < length files) where
+  -- a record that asks for a pair
+  record IsAsking (pair : TextPair) : Type 0 where
+    asking : RecordId
+    record_in : IsRecord files asking
+    file_is : asking.file ≡ file
+    place_is : slice_get (text_sections files) pair.section ≡ Some (section file asking.section)
+    by : IsAskedBy files asking pair
+
+  asking : (pair : TextPair) → AskedOf files file pair → IsAsking pair
+  asking pair asked =
+      let b = file_at files file in
+      let i : ℕ = asked.0 in
+      let table_in : i < e_shnum b = asked.1 in
+      let k : ℕ = asked.2.0 in
+      let within : k < record_count b i = asked.2.1 in
+      let by : IsAskedBy files (record_id file b i k) pair = asked.2.2 in
+      let some : 0 < record_count b i = omega arith in
+      record {
+        asking = record_id file b i k;
+        record_in = record { file_in = file_in; table_in = table_in; within = within; section_is = refl };
+        file_is = refl;
+        place_is =
+            numbered files file (sh_info b i) pair.section file_in (about_within files file i whole file_in table_in some) by.section_is;
+        by = by;
+      }
+
+  -- a record that loads an address
+  record IsLoading (place : CodePlace) : Type 0 where
+    loading : RecordId
+    record_in : IsRecord files loading
+    file_is : loading.file ≡ file
+    place_is : slice_get (text_sections files) place.section ≡ Some (section file loading.section)
+    by : IsLoadBy files loading place
+
+  loading : (place : CodePlace) → LoadedOf files file place → IsLoading place
+  loading place loaded =
+      let b = file_at files file in
+      let i : ℕ = loaded.0 in
+      let table_in : i < e_shnum b = loaded.1 in
+      let k : ℕ = loaded.2.0 in
+      let within : k < record_count b i = loaded.2.1 in
+      let by : IsLoadBy files (record_id file b i k) place = loaded.2.2 in
+      let some : 0 < record_count b i = omega arith in
+      record {
+        loading = record_id file b i k;
+        record_in = record { file_in = file_in; table_in = table_in; within = within; section_is = refl };
+        file_is = refl;
+        place_is =
+            numbered files file (sh_info b i) place.section file_in (about_within files file i whole file_in table_in some) by.section_is;
+        by = by;
+      }
+
+  one_section : (k i j : ℕ) → slice_get (text_sections files) k ≡ Some (section file i) →
+      slice_get (text_sections files) k ≡ Some (section file j) → i ≡ j
+  one_section k i j a b =
+      ap (λ (s : SectionId). s.section) (some_is (section file i) (section file j) (sym a ∙ b))
+
+  pub asked_words : (pair : TextPair) (s : SectionId) → AskedOf files file pair → slice_get (text_sections files) pair.section ≡ Some s →
+      (s.file ≡ file) × ArePairWords (section_bytes (file_at files s.file) s.section) pair.head pair.tail
+  asked_words pair s asked place =
+      let is = asking pair asked in
+      let same : section file is.asking.section ≡ s = some_is (section file is.asking.section) s (sym is.place_is ∙ place) in
+      let words : ArePairWords (section_bytes (file_at files file) is.asking.section) pair.head pair.tail =
+      subst (λ (f : ℕ). ArePairWords (section_bytes (file_at files f) is.asking.section) pair.head pair.tail) is.file_is is.by.words in
+      (ap (λ (t : SectionId). t.file) (sym same),
+      subst (λ (t : SectionId). ArePairWords (section_bytes (file_at files t.file) t.section) pair.head pair.tail) same words)
+
+  pub asked_place : (pair : TextPair) → AskedOf files file pair →
+      (s : SectionId) × (slice_get (text_sections files) pair.section ≡ Some s)
+  asked_place pair asked = let is = asking pair asked in (section file is.asking.section, is.place_is)
+
+  pub asked_within : (pair : TextPair) → AskedOf files file pair → pair.section < length (text_sections files)
+  asked_within pair asked =
+      let is = asking pair asked in
+      slice_get_within (text_sections files) pair.section (section file is.asking.section) is.place_is
+
+  -- a pair that is asked for, whose load is there and which is free is recognised
+  pub recognised : (pair : TextPair) → AskedOf files file pair → LoadedOf files file (head_of pair) → IsFree files pair →
+      IsRecognisedIn files file pair
+  recognised pair asked loaded free =
+      let a = asking pair asked in
+      let l = loading (head_of pair) loaded in
+      let own = section file a.asking.section in
+      let same : l.loading.section ≡ a.asking.section =
+      one_section pair.section l.loading.section a.asking.section l.place_is a.place_is in
+      let asks = subst (λ (f : ℕ). IsAskedIn files f a.asking pair) a.file_is (asked_in files a.asking pair a.by) in
+      let loads = subst (λ (f : ℕ). IsLoadedIn files f l.loading (head_of pair)) l.file_is (loaded_in files l.loading (head_of pair) l.by) in
+      let place : free.place ≡ own = some_is free.place own (sym free.place_is ∙ a.place_is) in
+      record {
+        is = record {
+          place = own;
+          place_is = a.place_is;
+          is = record {
+            asked = record {
+              record_id = a.asking;
+              here = record {
+                record_in = a.record_in;
+                file_is = a.file_is;
+                section_is = refl;
+                kind_is = asks.kind_is;
+                offset_is = asks.head_is;
+              };
+              distance = asks.distance;
+            };
+            words = asks.words;
+            load = record {
+              record_id = l.loading;
+              here = record {
+                record_in = l.record_in;
+                file_is = l.file_is;
+                section_is = same;
+                kind_is = loads.kind_is;
+                offset_is = loads.offset_is;
+              };
+              address = loads.address;
+            };
+            untouched = subst (λ (s : SectionId). list_any
+                (meets s.section (pair.head + 8) (pair.tail + 4 - (pair.head + 8)))
+                (fields_of s.file (file_at files s.file)) ≡ false) place free.untouched;
+          };
+        };
+        file_is = refl;
+      }
+
+-- record r of a file is the one of its table and entry
+own_record : (files : List (List ℕ)) (r : RecordId) → IsRecord files r → record_id r.file (file_at files r.file) r.table r.entry ≡ r
+own_record files r is =
+    ap (λ (s : ℕ). record { file = r.file; table = r.table; entry = r.entry; section = s }) (sym is.section_is)
+
+asks : (files : List (List ℕ)) (pair : TextPair) (is : IsRecognised files pair) → IsAskedBy files is.is.asked.record_id pair
+asks files pair is =
+    let r = is.is.asked.record_id in
+    let here = is.is.asked.here in
+    let s = is.place in
+    let back : s.file ≡ r.file = sym here.file_is in
+    let number : text_number files r.file r.section ≡ Some pair.section =
+    ap (λ (f : ℕ). text_number files f r.section) here.file_is ∙ ap (λ (i : ℕ). text_number files s.file i) here.section_is
+    ∙ text_number_at files pair.section s is.place_is in
+    let inside : IsAskedIn files s.file r pair = record {
+      kind_is = here.kind_is;
+      head_is = here.offset_is;
+      distance = is.is.asked.distance;
+      words = subst (λ (i : ℕ). ArePairWords (section_bytes (file_at files s.file) i) pair.head pair.tail) (sym here.section_is) is.is.words;
+    } in
+    let own = subst (λ (f : ℕ). IsAskedIn files f r pair) back inside in
+    record { section_is = number; kind_is = own.kind_is; head_is = own.head_is; distance = own.distance; words = own.words }
+
+loads_it : (files : List (List ℕ)) (pair : TextPair) (is : IsRecognised files pair) → IsLoadBy files is.is.load.record_id (head_of pair)
+loads_it files pair is =
+    let r = is.is.load.record_id in
+    let here = is.is.load.here in
+    let s = is.place in
+    let back : s.file ≡ r.file = sym here.file_is in
+    let number : text_number files r.file r.section ≡ Some pair.section =
+    ap (λ (f : ℕ). text_number files f r.section) here.file_is ∙ ap (λ (i : ℕ). text_number files s.file i) here.section_is
+    ∙ text_number_at files pair.section s is.place_is in
+    let inside : IsLoadedIn files s.file r (head_of pair) =
+    record { kind_is = here.kind_is; offset_is = here.offset_is; address = is.is.load.address } in
+    let own = subst (λ (f : ℕ). IsLoadedIn files f r (head_of pair)) back inside in
+    record { section_is = number; kind_is = own.kind_is; offset_is = own.offset_is; address = own.address }
+
+-- what is recognised is asked for
+pub asked_for : (files : List (List ℕ)) (file : ℕ) (pair : TextPair) → IsRecognisedIn files file pair → AskedOf files file pair
+asked_for files file pair here =
+    let is = here.is in
+    let r = is.is.asked.record_id in
+    let in_files = is.is.asked.here.record_in in
+    let by : IsAskedBy files (record_id r.file (file_at files r.file) r.table r.entry) pair =
+    subst (λ (q : RecordId). IsAskedBy files q pair) (sym (own_record files r in_files)) (asks files pair is) in
+    let own : AskedOf files r.file pair = (r.table, in_files.table_in, (r.entry, in_files.within, by)) in
+    subst (λ (f : ℕ). AskedOf files f pair) (is.is.asked.here.file_is ∙ here.file_is) own
+
+-- is loaded
+pub loaded_at : (files : List (List ℕ)) (file : ℕ) (pair : TextPair) → IsRecognisedIn files file pair →
+    LoadedOf files file (head_of pair)
+loaded_at files file pair here =
+    let is = here.is in
+    let r = is.is.load.record_id in
+    let in_files = is.is.load.here.record_in in
+    let by : IsLoadBy files (record_id r.file (file_at files r.file) r.table r.entry) (head_of pair) =
+    subst (λ (q : RecordId). IsLoadBy files q (head_of pair)) (sym (own_record files r in_files)) (loads_it files pair is) in
+    let own : LoadedOf files r.file (head_of pair) = (r.table, in_files.table_in, (r.entry, in_files.within, by)) in
+    subst (λ (f : ℕ). LoadedOf files f (head_of pair)) (is.is.load.here.file_is ∙ here.file_is) own
+
+-- and is free
+pub free_of : (files : List (List ℕ)) (pair : TextPair) → IsRecognised files pair → IsFree files pair
+free_of files pair is = record { place = is.place; place_is = is.place_is; untouched = is.is.untouched }
