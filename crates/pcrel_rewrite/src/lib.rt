@@ -3,12 +3,16 @@
 #![tactic(auto)]
 
 mod gathered;
+mod laws;
 mod order;
 mod recognised;
 mod rewriting;
 mod text_pairs;
 mod words;
 
+pub use laws::{
+    accesses_are_alone, loads_are_sound, loads_have_one_access, pairs_are_apart, pairs_reach,
+};
 pub use recognised::pairs;
 pub use rewriting::{rewrite_got, rewrite_pair};
 pub use text_pairs::{Pairs, TextPair};
