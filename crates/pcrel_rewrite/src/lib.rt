@@ -16,3 +16,6 @@ pub use laws::{
 pub use recognised::pairs;
 pub use rewriting::{rewrite_got, rewrite_pair};
 pub use text_pairs::{Pairs, TextPair};
+
+#[cfg(test)]
+mod tests;

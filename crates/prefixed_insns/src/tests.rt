@@ -1,4 +1,5 @@
-use crate::{PInsn, POp, decode_pair, encode_pair, plan_for_pair};
+use crate::{PInsn, POp, as_prefixed, decode_pair, encode_pair, plan_for_pair};
+use power_insns::decode;
 use power_insns::meaning::{Operand, Operation, Sign, Width};
 
 #[test]
@@ -121,4 +122,31 @@ fn a_relative_load_reaches_from_its_own_address(rt: HostRuntime) {
             }
         )
     );
+}
+
+#[test]
+fn ten_loads_and_stores_have_a_prefixed_form(rt: HostRuntime) {
+    // with r3 and 8(r9): each mnemonic, and what it becomes where 16 bytes back is meant
+    let forms = [
+        ("lwz", 0x8069_0008, Some((0x0613_FFFF, 0x8060_FFF0))),
+        ("lbz", 0x8869_0008, Some((0x0613_FFFF, 0x8860_FFF0))),
+        ("lhz", 0xA069_0008, Some((0x0613_FFFF, 0xA060_FFF0))),
+        ("lha", 0xA869_0008, Some((0x0613_FFFF, 0xA860_FFF0))),
+        ("lwa", 0xE869_000A, Some((0x0413_FFFF, 0xA460_FFF0))),
+        ("ld", 0xE869_0008, Some((0x0413_FFFF, 0xE460_FFF0))),
+        ("stw", 0x9069_0008, Some((0x0613_FFFF, 0x9060_FFF0))),
+        ("stb", 0x9869_0008, Some((0x0613_FFFF, 0x9860_FFF0))),
+        ("sth", 0xB069_0008, Some((0x0613_FFFF, 0xB060_FFF0))),
+        ("std", 0xF869_0008, Some((0x0413_FFFF, 0xF460_FFF0))),
+        ("stdu", 0xF869_0009, None),
+        ("addi", 0x3869_0008, None),
+        ("lwzx", 0x7C69_402E, None),
+    ];
+    for (mnemonic, word, pair) in forms {
+        let found = match decode(word) {
+            Some(insn) => as_prefixed(&insn, -16).map(|pair| encode_pair(&pair)),
+            None => None,
+        };
+        assert!(rt; found == pair, "{mnemonic}");
+    }
 }
