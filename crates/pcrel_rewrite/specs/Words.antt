@@ -16,6 +16,7 @@ use Rattle.prefixed_insns.specs.declared.instruction.PInsn.{PInsn}
 use Rattle.prefixed_insns.specs.declared.short_forms.ShortForm.{ShortForm}
 use Rattle.prefixed_insns.specs.Table.{prefix_of, suffix_of, Fits as FitsPair}
 use Rattle.prefixed_insns.specs.ShortForms.{short_form_of}
+use Rattle.pcrel_rewrite.specs.declared.words.ShortAccess.{ShortAccess}
 use Rattle.pcrel_rewrite.specs.declared.words.Uses.{Uses}
 
 -- a word is that of an instruction
@@ -71,6 +72,11 @@ pub record IsNear (head tail : ℕ) : Type 0 where
   pub least : head + 8 ≤ tail
   pub most : tail ≤ head + 128
   pub aligned : (tail - head) % 4 ≡ 0
+
+-- a word is a load or store by a displacement from a register, which has a prefixed form
+pub record IsShortWord (word : ℕ) (access : ShortAccess) : Type 0 where
+  pub is : IsWordOf access.insn word
+  pub form_is : short_form_of access.insn ≡ Some access.form
 
 -- a word loads or stores by a displacement from the register that holds the address. A store stores another register: the two become
 -- one instruction, after which that one doesn't hold the address

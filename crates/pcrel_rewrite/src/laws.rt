@@ -10,12 +10,17 @@ ghost use Rattle.reloc_fields.specs.declared.kind.Kind.TheVariants.{GotPcrel34};
 ghost use Rattle.symbol_table.specs.Fields.{fields_of, meets};
 ghost use Rattle.symbol_table.specs.Records.{records_refusal};
 ghost use Rattle.symbol_table.specs.laws.Records.{IsSoundField};
-ghost use Rattle.pcrel_rewrite.specs.Pairs.{IsRecordAt, IsPair};
+ghost use Rattle.pcrel_rewrite.specs.Pairs.{IsRecordAt, IsPair, IsRecognised};
+ghost use Rattle.pcrel_rewrite.specs.TextPairs.{text_pair};
 ghost use Rattle.pcrel_rewrite.specs.Words.{ArePairWords};
 
-/// A load has one access, whatever other records ask for: the first of two would be a word between that reads the address.
+/// A load has one access, whatever other records ask for: the first of two would be a word between that reads the address. So a place
+/// has one recognised pair.
 pub fn loads_have_one_access()
-    ensures { (bytes : List ℕ) (head tail other : ℕ) →
+    ensures place { (files : List (List ℕ)) (section head tail other : ℕ) →
+        IsRecognised files (text_pair section head tail) →
+        IsRecognised files (text_pair section head other) → tail ≡ other }
+    ensures words { (bytes : List ℕ) (head tail other : ℕ) →
         ArePairWords bytes head tail → ArePairWords bytes head other → tail ≡ other }
 {}
 

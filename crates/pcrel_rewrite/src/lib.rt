@@ -16,6 +16,7 @@ pub use laws::{
 pub use recognised::pairs;
 pub use rewriting::{rewrite_got, rewrite_pair};
 pub use text_pairs::{Pairs, TextPair};
+pub use words::{ShortAccess, short_access};
 
 #[cfg(test)]
 mod tests;

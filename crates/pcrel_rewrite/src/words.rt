@@ -3,15 +3,35 @@ ghost use Rattle.std.specs.Prelude.{◌≡◌, ◌<◌, ◌≤◌, ◌+◌, ◌-
 ghost use Rattle.ppc_bytes.specs.Bytes.{number_at};
 ghost use Rattle.power_insns.specs.Operations.{operation_of};
 ghost use Rattle.power_insns.specs.Table.{Fits as FitsWord};
+ghost use Rattle.pcrel_rewrite.specs.declared.words.ShortAccess.{ShortAccess};
 ghost use Rattle.pcrel_rewrite.specs.declared.words.Uses.{Uses};
 ghost use Rattle.pcrel_rewrite.specs.inside.Words.{ArePassed};
-ghost use Rattle.pcrel_rewrite.specs.Words.{IsWordOf, LoadsAddress, IsAccess, is_straight, Spares, may_pass, MayPass, IsPassed, IsNear, ArePairWords};
+ghost use Rattle.pcrel_rewrite.specs.Words.{IsWordOf, IsShortWord, LoadsAddress, IsAccess, is_straight, Spares, may_pass, MayPass, IsPassed, IsNear, ArePairWords};
 
 use power_insns::meaning::Operation;
 use power_insns::plan::plan_for;
 use power_insns::{Access, Insn, decode, memory, reads, writes};
 use ppc_bytes::word_at;
 use prefixed_insns::{POp, ShortForm, decode_pair, short_form};
+
+/// A load or store by a displacement from a register, which has a prefixed form.
+#[derive(Clone, Copy)]
+pub struct ShortAccess {
+    /// The instruction.
+    pub insn: Insn,
+    /// Its register, its base and its displacement, and the mnemonic of the prefixed form.
+    pub form: ShortForm,
+}
+
+/// The access of a word, if it is one. What the tail of a recognised pair loads or stores, and how far from the symbol, is read off it.
+pub fn short_access(word: u32) -> Option<ShortAccess>
+    ensures some { IfSome result (IsShortWord word) }
+    ensures none { IfNone result ((access : ShortAccess) → ¬ IsShortWord word access) }
+{
+    let insn = decode(word)?;
+    let form = short_form(&insn)?;
+    Some(ShortAccess { insn, form })
+}
 
 /// What an access uses, so that words between it and the load of its address have to spare it.
 #[derive(Clone, Copy)]

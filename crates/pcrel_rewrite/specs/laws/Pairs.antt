@@ -27,7 +27,8 @@ use Rattle.symbol_table.specs.Fields.{kind_numbered, width_in, field_of, fields_
 use Rattle.symbol_table.specs.Records.{records_refusal}
 use Rattle.symbol_table.specs.laws.Records.{IsSoundField, IsSoundRecord, records_sound, fields_apart}
 use Rattle.pcrel_rewrite.specs.declared.words.Uses.{Uses}
-use Rattle.pcrel_rewrite.specs.Pairs.{IsRecordAt, IsPair}
+use Rattle.pcrel_rewrite.specs.Pairs.{IsRecordAt, IsPair, IsRecognised}
+use Rattle.pcrel_rewrite.specs.TextPairs.{text_pair}
 use Rattle.pcrel_rewrite.specs.Words.{IsWordOf, IsAccess, ArePairWords, IsPassed}
 use Rattle.pcrel_rewrite.specs.laws.Words.{one_insn, one_register}
 
@@ -263,3 +264,14 @@ pub no_field_between : (files : List (List ℕ)) (s : SectionId) (head tail from
 no_field_between files s head tail from count p above below =
     none_less s.section from count (head + 8) (tail + 4 - (head + 8)) (fields_of s.file (file_at files s.file)) above (omega arith)
     p.untouched
+
+section_is : (s t : SectionId) → Some s ≡ Some t → s ≡ t
+section_is s t same = cc
+
+-- a place has one recognised pair
+pub one_pair_at : (files : List (List ℕ)) (section head tail other : ℕ) → IsRecognised files (text_pair section head tail) →
+    IsRecognised files (text_pair section head other) → tail ≡ other
+one_pair_at files section head tail other p q =
+    let same : q.place ≡ p.place = section_is q.place p.place (sym q.place_is ∙ p.place_is) in
+    let words = subst (λ (s : SectionId). ArePairWords (section_bytes (file_at files s.file) s.section) head other) same q.is.words in
+    one_tail (section_bytes (file_at files p.place.file) p.place.section) head tail other p.is.words words
