@@ -128,9 +128,10 @@ module _ (files : List (List ℕ)) (file : ℕ) (whole : set_refusal files ≡ N
       let is = asking pair asked in
       let same : section file is.asking.section ≡ s = some_is (section file is.asking.section) s (sym is.place_is ∙ place) in
       let words : ArePairWords (section_bytes (file_at files file) is.asking.section) pair.head pair.tail =
-      subst (λ (f : ℕ). ArePairWords (section_bytes (file_at files f) is.asking.section) pair.head pair.tail) is.file_is is.by.words in
-      (ap (λ (t : SectionId). t.file) (sym same),
-      subst (λ (t : SectionId). ArePairWords (section_bytes (file_at files t.file) t.section) pair.head pair.tail) same words)
+      subst (λ (f : ℕ). ArePairWords (section_bytes (file_at files f) is.asking.section) pair.head pair.tail) is.file_is is.by.words in (
+        ap (λ (t : SectionId). t.file) (sym same),
+        subst (λ (t : SectionId). ArePairWords (section_bytes (file_at files t.file) t.section) pair.head pair.tail) same words,
+      )
 
   pub asked_place : (pair : TextPair) → AskedOf files file pair →
       (s : SectionId) × (slice_get (text_sections files) pair.section ≡ Some s)

@@ -12,14 +12,14 @@ use Rattle.pcrel_rewrite.specs.inside.Joins.{Joins, Before}
 use Rattle.pcrel_rewrite.specs.inside.Order.{head_of}
 use Rattle.pcrel_rewrite.specs.inside.Recognised.{AskedOf, LoadedOf, IsTaken, TakenAt, IsRecognisedIn}
 use Rattle.pcrel_rewrite.proofs.FilePairs.{recognised, asked_for, loaded_at, free_of}
-use Rattle.pcrel_rewrite.proofs.Joining.{joins_as}
+use Rattle.pcrel_rewrite.proofs.Joining.{joins_as, joins_nothing}
 
 none_held : {X : Type 0} (x : X) → ¬ Contains [] x
 none_held x = λ held. let within = held.1 in absurd (omega arith)
 
 -- what is gathered in an empty list
 pub gathered_only : {X : Type 0} (P : X → Type 0) (xs : List X) → Joins P [] xs → (x : X) → Contains xs x → P x
-gathered_only P xs joins x held = elim (joins.only x held) [ | inl none ↦ absurd (none_held x none) | inr holds ↦ holds ]
+gathered_only P xs joins x held = elim (joins.only x held) [ inl none ↦ absurd (none_held x none) | inr holds ↦ holds ]
 
 -- in another order
 pub gathered_in_order : {X : Type 0} (P : X → Type 0) (xs ys zs : List X) → Joins P [] xs → IsPermutation xs ys → zs ≡ ys → (x : X) →
@@ -49,13 +49,25 @@ file_found files file whole file_in asked asked' asked'' loads loads' loads'' ga
     (gathered_in_order (LoadedOf files file) loads loads' loads'' loaded same' is' (head_of x) taken.taken.load) taken.taken.free)
     (λ x here.
     let held = ordered_holds (AskedOf files file) asked asked' asked'' gathered same is x (asked_for files file x here) in
-    let load = ordered_holds (LoadedOf files file) loads loads' loads'' loaded same' is' (head_of x) (loaded_at files file x here) in
-    (held.0, held.1, record {
-      within = held.1;
-      here = held.2;
-      taken = record { load = load; free = free_of files x here.is };
-    }))
+    let load = ordered_holds (LoadedOf files file) loads loads' loads'' loaded same' is' (head_of x) (loaded_at files file x here) in (
+      held.0,
+      held.1,
+      record {
+        within = held.1;
+        here = held.2;
+        taken = record { load = load; free = free_of files x here.is };
+      },
+    ))
     joins
+
+-- where nothing is asked for nothing is recognised
+pub none_found : (files : List (List ℕ)) (file : ℕ) (asked found : List TextPair) → Joins (AskedOf files file) [] asked →
+    length asked ≡ 0 → Joins (IsRecognisedIn files file) found found
+none_found files file asked found gathered none =
+    joins_nothing (IsRecognisedIn files file) found
+    (λ x here.
+    let within = (gathered.taken x (asked_for files file x here)).1 in
+    absurd (omega arith))
 
 -- those of all files
 pub all_found : (files : List (List ℕ)) (found pairs : List TextPair) →

@@ -26,14 +26,15 @@ pub free_case : (files : List (List ℕ)) (pair : TextPair) (s : SectionId) (any
     slice_get (text_sections files) pair.section ≡ Some s →
     any ≡ list_any (meets s.section (pair.head + 8) (pair.tail + 4 - (pair.head + 8))) (fields_of s.file (file_at files s.file)) →
     (IsTrue (not any) → IsFree files pair) × (IsFree files pair → IsTrue (not any))
-free_case files pair s any place looked =
-    (λ t. record { place = s; place_is = place; untouched = sym looked ∙ not_true any t },
-    λ free.
-    let same : free.place ≡ s = some_is free.place s (sym free.place_is ∙ place) in
-    not_false any (looked
-    ∙ subst (λ (p : SectionId).
-    list_any (meets p.section (pair.head + 8) (pair.tail + 4 - (pair.head + 8))) (fields_of p.file (file_at files p.file)) ≡ false) same
-    free.untouched))
+free_case files pair s any place looked = (
+  λ t. record { place = s; place_is = place; untouched = sym looked ∙ not_true any t },
+  λ free.
+      let same : free.place ≡ s = some_is free.place s (sym free.place_is ∙ place) in
+      not_false any (looked
+      ∙ subst (λ (p : SectionId).
+      list_any (meets p.section (pair.head + 8) (pair.tail + 4 - (pair.head + 8))) (fields_of p.file (file_at files p.file)) ≡ false) same
+      free.untouched),
+)
 
 -- no access ends past what a file may hold
 pub pair_end : (files : List (List ℕ)) (file : ℕ) → set_refusal files ≡ None → file < length files → (pair : TextPair) →

@@ -1,10 +1,32 @@
 -- The words of a pair, from what is read of them.
 use Rattle.std.proofs.Common.{◌≡◌, ◌<◌, ◌≤◌, ◌+◌, ◌-◌, ◌*◌, ◌/◌, ◌%◌, ℕ, Bool, true, List, length, sym, ap, ◌∙◌, subst, rules, arith}
 use Rattle.ppc_bytes.specs.Bytes.{number_at}
+use Rattle.power_insns.specs.declared.uses.Access.TheVariants as memory
+use Rattle.power_insns.specs.Operations.{operation_of}
+use Rattle.power_insns.specs.Uses.{access_of}
+use Rattle.pcrel_rewrite.specs.declared.words.ShortAccess.{ShortAccess}
 use Rattle.pcrel_rewrite.specs.declared.words.Uses.{Uses}
-use Rattle.pcrel_rewrite.specs.Words.{LoadsAddress, IsAccess, IsPassed, IsNear, ArePairWords}
+use Rattle.pcrel_rewrite.specs.Words.{IsShortWord, LoadsAddress, IsAccess, IsPassed, IsNear, ArePairWords}
 use Rattle.pcrel_rewrite.specs.inside.Words.{ArePassed}
-use Rattle.pcrel_rewrite.specs.laws.Words.{one_register, one_use}
+use Rattle.pcrel_rewrite.specs.laws.Words.{one_register, one_access, one_use}
+
+-- an access by another register
+pub other_base : (word address : ℕ) (found : ShortAccess) → IsShortWord word found → (found.form.base ≡ address → ⊥) → (u : Uses) →
+    ¬ IsAccess word address u
+other_base word address found is other u = λ a.
+    let same : a.access ≡ found = one_access word a.access found a.here is in
+    other (ap (λ (s : ShortAccess). s.form.base) (sym same) ∙ a.base_is)
+
+-- a store of the register that holds the address
+pub own_store : (word address : ℕ) (found : ShortAccess) → IsShortWord word found →
+    access_of (operation_of found.insn) ≡ memory.Store → found.form.register ≡ address → (u : Uses) → ¬ IsAccess word address u
+own_store word address found is store own u = λ a.
+    let same : a.access ≡ found = one_access word a.access found a.here is in
+    let access : u.access ≡ memory.Store =
+    ap (λ (v : Uses). v.access) a.uses_is ∙ ap (λ (s : ShortAccess). access_of (operation_of s.insn)) same ∙ store in
+    let register : u.register ≡ address =
+    ap (λ (v : Uses). v.register) a.uses_is ∙ ap (λ (s : ShortAccess). s.form.register) same ∙ own in
+    a.other access register
 
 module _ (bytes : List ℕ) (head tail prefix suffix : ℕ) (prefix_is : prefix ≡ number_at 4 bytes head)
     (suffix_is : suffix ≡ number_at 4 bytes (head + 4)) where
@@ -36,7 +58,7 @@ module _ (bytes : List ℕ) (head tail prefix suffix : ℕ) (prefix_is : prefix 
       within = within;
       address = address;
       loads = subst (λ (w : ℕ). LoadsAddress (number_at 4 bytes head) w address) suffix_is
-      (subst (λ (w : ℕ). LoadsAddress w suffix address) prefix_is loads);
+          (subst (λ (w : ℕ). LoadsAddress w suffix address) prefix_is loads);
       uses = uses;
       access = subst (λ (w : ℕ). IsAccess w address uses) word_is access;
       between = λ k before. passed k (omega (arith, near.aligned, near.least));

@@ -81,12 +81,10 @@ pub record IsShortWord (word : ℕ) (access : ShortAccess) : Type 0 where
 -- a word loads or stores by a displacement from the register that holds the address. A store stores another register: the two become
 -- one instruction, after which that one doesn't hold the address
 pub record IsAccess (word address : ℕ) (uses : Uses) : Type 0 where
-  pub insn : Insn
-  pub is : IsWordOf insn word
-  pub form : ShortForm
-  pub form_is : short_form_of insn ≡ Some form
-  pub base_is : form.base ≡ address
-  pub uses_is : uses ≡ record { address = address; register = form.register; access = access_of (operation_of insn) }
+  pub access : ShortAccess
+  pub here : IsShortWord word access
+  pub base_is : access.form.base ≡ address
+  pub uses_is : uses ≡ record { address = address; register = access.form.register; access = access_of (operation_of access.insn) }
   pub other : uses.access ≡ memory.Store → uses.register ≢ address
 
 -- among the bytes of a section the words at the head and at the tail are such a load and such an access, and the access may be made

@@ -10,8 +10,7 @@ use symbol_table::CodePlace;
 pub fn comes_before(place: CodePlace, other: CodePlace) -> bool
     ensures { result ≡ nat_lt (rank place) (rank other) }
 {
-    place.section < other.section
-        || (place.section == other.section && place.offset < other.offset)
+    place.section < other.section || (place.section == other.section && place.offset < other.offset)
 }
 
 /// How a place stands to another one.

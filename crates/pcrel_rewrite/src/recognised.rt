@@ -64,12 +64,7 @@ fn is_free(resolved: &Resolved, fields: &FileFields, pair: TextPair) -> bool
 }
 
 /// Whether a pair that a record asks for is a load from a slot, and free.
-fn is_taken(
-    resolved: &Resolved,
-    fields: &FileFields,
-    loads: &[CodePlace],
-    pair: TextPair,
-) -> bool
+fn is_taken(resolved: &Resolved, fields: &FileFields, loads: &[CodePlace], pair: TextPair) -> bool
     requires same { fields.now.files ≡ resolved.now.files }
     requires asked { AskedOf resolved.now.files fields.now.file pair }
     requires sorted { IsNonDecreasingBy rank loads.now }
@@ -150,6 +145,9 @@ fn push_file(
     // no file of a set is refused, so that what records are about is a section of their file
     let _files = set.file_count();
     let mut gathered = Gathered::of_file(alloc, resolved, file)?;
+    if gathered.asked.is_empty() {
+        return Ok(());
+    }
     sort_heads(&mut gathered.asked);
     sort_places(&mut gathered.loads);
     let fields = FileFields::of_file(alloc, set, file)?;

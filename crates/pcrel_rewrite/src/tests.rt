@@ -2,8 +2,8 @@
 use crate::{pairs, rewrite_got, rewrite_pair};
 use object_builder::{FileHeader, Object, Record, Section, Stated, Symbol};
 use object_set::{FileBytes, ObjectSet};
-use ppc_bytes::constants::{SHN_ABS, SHN_COMMON};
 use power_insns::decode;
+use ppc_bytes::constants::{SHN_ABS, SHN_COMMON};
 use std::alloc::{AllocError, Global};
 use std::process::Abort;
 use std::test::Fail;

@@ -117,7 +117,9 @@ impl Pairs {
             ¬ Contains self.now (text_pair section offset tail)) }
     {
         let place = CodePlace { section, offset };
-        let next = self.heads.partition_point(|p| comes_before(p.head_place(), place));
+        let next = self
+            .heads
+            .partition_point(|p| comes_before(p.head_place(), place));
         match self.heads.get(next) {
             Some(pair) => {
                 if pair.has_head(place) {
@@ -135,7 +137,9 @@ impl Pairs {
         ensures { IsTrue result ↔ (head : ℕ) × Contains self.now (text_pair section head offset) }
     {
         let place = CodePlace { section, offset };
-        let next = self.tails.partition_point(|p| comes_before(p.tail_place(), place));
+        let next = self
+            .tails
+            .partition_point(|p| comes_before(p.tail_place(), place));
         match self.tails.get(next) {
             Some(pair) => pair.has_tail(place),
             None => false,

@@ -60,10 +60,7 @@ fn is_straight(insn: &Insn) -> bool
     requires { FitsWord insn.now }
     ensures { result ≡ is_straight (operation_of insn.now) }
 {
-    !matches!(
-        plan_for(insn),
-        Operation::Branch { .. } | Operation::System
-    )
+    !matches!(plan_for(insn), Operation::Branch { .. } | Operation::System)
 }
 
 /// Whether an instruction neither reads nor writes a register.
@@ -109,15 +106,17 @@ fn access_through(word: u32, address: u32) -> Option<Uses>
     ensures some { IfSome result (λ uses. IsAccess word address uses) }
     ensures none { IfNone result ((uses : Uses) → ¬ IsAccess word address uses) }
 {
-    let insn = decode(word)?;
-    let form = short_form(&insn)?;
-    let access = memory(&insn);
-    if form.base != address || (access == Access::Store && form.register == address) {
+    let found = short_access(word)?;
+    if found.form.base != address {
+        return None;
+    }
+    let access = memory(&found.insn);
+    if access == Access::Store && found.form.register == address {
         return None;
     }
     Some(Uses {
         address,
-        register: form.register,
+        register: found.form.register,
         access,
     })
 }

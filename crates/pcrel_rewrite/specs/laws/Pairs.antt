@@ -33,10 +33,10 @@ use Rattle.pcrel_rewrite.specs.Words.{IsWordOf, IsAccess, ArePairWords, IsPassed
 use Rattle.pcrel_rewrite.specs.laws.Words.{one_insn, one_register}
 
 -- the access reads the register that holds the address
-address_read : (word address : ℕ) (uses : Uses) → 0 < address → (a : IsAccess word address uses) → Reads (operation_of a.insn) address
+address_read : (word address : ℕ) (uses : Uses) → 0 < address → (a : IsAccess word address uses) → Reads (operation_of a.access.insn) address
 address_read word address uses some a =
-    let base : 0 < a.form.base = let same = a.base_is in omega arith in
-    subst (λ (r : ℕ). Reads (operation_of a.insn) r) a.base_is (reads_base a.insn a.form a.form_is base)
+    let base : 0 < a.access.form.base = let same = a.base_is in omega arith in
+    subst (λ (r : ℕ). Reads (operation_of a.access.insn) r) a.base_is (reads_base a.access.insn a.access.form a.here.form_is base)
 
 -- no access stands between the words of a pair with the same load
 none_between : (bytes : List ℕ) (head tail other : ℕ) → ArePairWords bytes head tail → ArePairWords bytes head other → ¬ (tail < other)
@@ -47,11 +47,11 @@ none_between bytes head tail other p q = λ before.
     let at : head + 8 + 4 * k ≡ tail = omega (arith, near.least, near.aligned) in
     let passed : IsPassed q.uses (number_at 4 bytes (head + 8 + 4 * k)) = q.between k (omega (arith, at, before)) in
     let here : IsPassed q.uses (number_at 4 bytes tail) = subst (λ (n : ℕ). IsPassed q.uses (number_at 4 bytes n)) at passed in
-    let same : p.access.insn ≡ here.insn = one_insn p.access.insn here.insn (number_at 4 bytes tail) p.access.is here.is in
+    let same : p.access.access.insn ≡ here.insn = one_insn p.access.access.insn here.insn (number_at 4 bytes tail) p.access.here.is here.is in
     let address : p.address ≡ q.address =
     one_register (number_at 4 bytes head) (number_at 4 bytes (head + 4)) p.address q.address p.loads q.loads in
     let own : q.uses.address ≡ q.address = ap (λ (u : Uses). u.address) q.access.uses_is in
-    let reads : Reads (operation_of p.access.insn) p.address =
+    let reads : Reads (operation_of p.access.access.insn) p.address =
     address_read (number_at 4 bytes tail) p.address p.uses p.loads.some p.access in
     let there : Reads (operation_of here.insn) q.uses.address =
     subst (λ (r : ℕ). Reads (operation_of here.insn) r) (address ∙ sym own)
@@ -72,8 +72,8 @@ one_tail bytes head tail other p q =
 -- the word of the access is no nop
 pub tail_word : (bytes : List ℕ) (head tail : ℕ) → ArePairWords bytes head tail → 0x80000000 ≤ number_at 4 bytes tail
 tail_word bytes head tail p =
-    let high = short_words_are_high p.access.insn p.access.form p.access.form_is in
-    let is = p.access.is.word_is in
+    let high = short_words_are_high p.access.access.insn p.access.access.form p.access.here.form_is in
+    let is = p.access.here.is.word_is in
     omega (arith, high, is)
 
 or_false : (p q : Bool) → (p || q) ≡ false → (p ≡ false) × (q ≡ false)
@@ -86,7 +86,7 @@ record_among file b i k zero within = absurd (omega arith)
 record_among file b i k (suc n) within =
     elim (cases_lt k n) [
       | inl less ↦ Contains-append_left (records_in file b i n) (record_id file b i n ∷ []) (record_id file b i k)
-        (record_among file b i k n less)
+          (record_among file b i k n less)
       | inr most ↦ (
           let same : n ≡ k = omega arith in
           subst (λ (m : ℕ). Contains (records_in file b i n ++ record_id file b i n ∷ []) (record_id file b i m)) same
@@ -205,7 +205,7 @@ loads_in_order files s p t q r whole first next before =
     ⊎ ((field_of b r).start + (field_of b r).width ≤ (field_of b q).start) =
     subst (λ (l : List ℕ). ((field_of l q).start + (field_of l q).width ≤ (field_of l r).start)
     ⊎ ((field_of l r).start + (field_of l r).width ≤ (field_of l q).start)) (sym same) apart in
-    elim here [ | inl h ↦ inl (omega (arith, h, f.start, f.width, g.start)) | inr h ↦ inr (omega (arith, h, f.start, g.start, g.width)) ]
+    elim here [ inl h ↦ inl (omega (arith, h, f.start, f.width, g.start)) | inr h ↦ inr (omega (arith, h, f.start, g.start, g.width)) ]
 
 -- two loads at different places are apart
 loads_apart : (files : List (List ℕ)) (s : SectionId) (p t : ℕ) (q r : RecordId) → records_refusal files ≡ None →
@@ -220,8 +220,8 @@ loads_apart files s p t q r whole first next less =
     let same : p ≡ t = sym at ∙ here ∙ at_too in
     omega arith in
     elim (before_or_behind q r other) [
-      | inl before ↦ elim (loads_in_order files s p t q r whole first next before) [ | inl h ↦ h | inr h ↦ absurd (omega arith) ]
-      | inr behind ↦ elim (loads_in_order files s t p r q whole next first behind) [ | inl h ↦ absurd (omega arith) | inr h ↦ h ]
+      | inl before ↦ elim (loads_in_order files s p t q r whole first next before) [ inl h ↦ h | inr h ↦ absurd (omega arith) ]
+      | inr behind ↦ elim (loads_in_order files s t p r q whole next first behind) [ inl h ↦ absurd (omega arith) | inr h ↦ h ]
     ]
 
 -- two pairs of a section have no byte in common: the later one begins behind the end of the earlier one

@@ -9,8 +9,9 @@ use Rattle.prefixed_insns.specs.declared.instruction.PInsn.{PInsn}
 use Rattle.prefixed_insns.specs.declared.short_forms.ShortForm.{ShortForm}
 use Rattle.prefixed_insns.specs.ShortForms.{short_form_of}
 use Rattle.prefixed_insns.specs.laws.Pairs.{one_pair}
+use Rattle.pcrel_rewrite.specs.declared.words.ShortAccess.{ShortAccess}
 use Rattle.pcrel_rewrite.specs.declared.words.Uses.{Uses}
-use Rattle.pcrel_rewrite.specs.Words.{IsWordOf, LoadsAddress, IsAccess}
+use Rattle.pcrel_rewrite.specs.Words.{IsWordOf, IsShortWord, LoadsAddress, IsAccess}
 
 -- a word is that of one instruction
 pub one_insn : (x y : Insn) (word : ℕ) → IsWordOf x word → IsWordOf y word → x ≡ y
@@ -24,13 +25,23 @@ one_register prefix suffix r s loads loads' =
     (loads.suffix_is ∙ sym loads'.suffix_is) in
     sym loads.register_is ∙ ap (λ (i : PInsn). i.rt) same ∙ loads'.register_is
 
+-- a word is one access
+pub one_access : (word : ℕ) (a b : ShortAccess) → IsShortWord word a → IsShortWord word b → a ≡ b
+one_access word a b is is' =
+    let insns : a.insn ≡ b.insn = one_insn a.insn b.insn word is.is is'.is in
+    let some : Some a.form ≡ Some b.form = sym is.form_is ∙ ap short_form_of insns ∙ is'.form_is in
+    let forms : a.form ≡ b.form = cc in
+    let with_insn : Insn → ShortAccess = λ i. record { insn = i; form = a.form } in
+    let with_form : ShortForm → ShortAccess = λ f. record { insn = b.insn; form = f } in
+    ap with_insn insns ∙ ap with_form forms
+
 -- a word accesses memory in one way
 pub one_use : (word address : ℕ) (u v : Uses) → IsAccess word address u → IsAccess word address v → u ≡ v
 one_use word address u v a b =
-    let same : a.insn ≡ b.insn = one_insn a.insn b.insn word a.is b.is in
-    let some : Some a.form ≡ Some b.form = sym a.form_is ∙ ap short_form_of same ∙ b.form_is in
-    let forms : a.form ≡ b.form = cc in
-    a.uses_is
-    ∙ ap (λ (f : ShortForm). record { address = address; register = f.register; access = access_of (operation_of a.insn) }) forms
-    ∙ ap (λ (i : Insn). record { address = address; register = b.form.register; access = access_of (operation_of i) }) same
-    ∙ sym b.uses_is
+    let same : a.access ≡ b.access = one_access word a.access b.access a.here b.here in
+    let uses : ShortAccess → Uses = λ s. record {
+      address = address;
+      register = s.form.register;
+      access = access_of (operation_of s.insn);
+    } in
+    a.uses_is ∙ ap uses same ∙ sym b.uses_is

@@ -13,9 +13,10 @@ returns-in-None c =
     let place = c.args.place in
     let this = rank place in
     let next = c.partition_point-next.result in
-    let split = split_point rank this places next c.requires c.partition_point-next.ensures.partitioned (λ a r f k. search rules) in
-    (λ t. cc,
-    λ held. absurd (none_sought rank this places next c.requires split c.in-None.ensures.lookup.3 place refl held))
+    let split = split_point rank this places next c.requires c.partition_point-next.ensures.partitioned (λ a r f k. search rules) in (
+      λ t. cc,
+      λ held. absurd (none_sought rank this places next c.requires split c.in-None.ensures.lookup.3 place refl held),
+    )
 
 -- the first that doesn't is this one, if any is
 pub returns-in-Some : goal.returns-in-Some
@@ -27,9 +28,10 @@ returns-in-Some c =
     let split = split_point rank this places next c.requires c.partition_point-next.ensures.partitioned (λ a r f k. search rules) in
     let p = c.in-Some.found.now in
     let found = c.in-Some.ensures.lookup.3 in
-    let held : Contains places p = (next, found.0, sym (found.1 p)) in
-    (λ t. subst (Contains places) (c.is_same.ensures.is.0 t) held,
-    λ inside.
-    c.is_same.ensures.is.1
-    (same_place p place c.is_same.ensures.fits c.is_same.ensures.other_fits
-    (rank_sought rank this places next c.requires split p found.1 place refl inside)))
+    let held : Contains places p = (next, found.0, sym (found.1 p)) in (
+      λ t. subst (Contains places) (c.is_same.ensures.is.0 t) held,
+      λ inside.
+          c.is_same.ensures.is.1
+          (same_place p place c.is_same.ensures.fits c.is_same.ensures.other_fits
+          (rank_sought rank this places next c.requires split p found.1 place refl inside)),
+    )

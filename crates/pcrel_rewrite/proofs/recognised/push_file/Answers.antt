@@ -1,9 +1,18 @@
-use Rattle.std.proofs.Common.{◌≡◌, ◌<◌, ℕ, List, length, None, sym, ap, ◌∙◌, subst}
+use Rattle.std.proofs.Common.{◌≡◌, ◌<◌, ℕ, List, length, None, sym, ap, ◌∙◌, subst, arith}
+use Rattle.std.proofs.lemmas.Bool.Decides.{nat_tests}
+use Rattle.std.proofs.lemmas.Grind.{common_steps}
 use Rattle.object_set.specs.Refusals.{set_refusal}
 use Rattle.symbol_table.specs.inside.Fields.{FileOf}
 use Rattle.pcrel_rewrite.specs.inside.Recognised.{AskedOf}
-use Rattle.pcrel_rewrite.proofs.FoundPairs.{gathered_in_order, file_found}
+use Rattle.pcrel_rewrite.proofs.FoundPairs.{none_found, gathered_in_order, file_found}
 use Rattle.pcrel_rewrite.proofs.recognised.push_file.Goals as goal
+
+-- nothing is asked for
+pub returns-then-is_empty : goal.returns-then-is_empty
+returns-then-is_empty c =
+    let none : length c.in_ok-gathered.gathered.asked.items ≡ 0 = grind (arith, common_steps, nat_tests) in
+    none_found c.args.resolved.now.files c.args.file c.in_ok-gathered.gathered.asked.items c.args.found.now.items
+    c.in_ok-gathered.ensures.asked_are none
 
 -- each of the pairs in order is asked for
 pub push_taken-requires-clause-asked : goal.push_taken-requires-clause-asked
