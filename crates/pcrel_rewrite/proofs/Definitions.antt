@@ -1,5 +1,5 @@
 -- The definition for which a symbol stands, as its file and number.
-use Rattle.std.proofs.Common.{◌≡◌, ◌<◌, ℕ, List, Option, None, Some, length, sym, ap, ◌∙◌, subst}
+use Rattle.std.proofs.Common.{◌≡◌, ◌<◌, ℕ, List, Option, None, Some, length, sym, ap, ◌∙◌}
 use Rattle.std.specs.Option.{option_map}
 use Rattle.object_set.specs.declared.places.SymbolId.{SymbolId}
 use Rattle.elf64_records.specs.Symbols.{symbol_count}

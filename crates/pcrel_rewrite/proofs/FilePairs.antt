@@ -1,8 +1,6 @@
 -- What is asked for and loaded in a file, and what is recognised there.
-use Rattle.std.proofs.Common.{◌≡◌, ◌<◌, ◌≤◌, ◌+◌, ◌-◌, ◌^◌, ◌⊎◌, inl, inr, ℕ, pos, zero, suc, Bool, true, false, List, [], ◌∷◌, Option, None, Some, slice_get, length, take, drop, sym, ap, ◌∙◌, subst, refl, arith, if◌then◌else◌}
-use Rattle.std.specs.List.{Contains, list_any, slice_index_or}
-use Rattle.std.specs.List.Sorted.{IsPermutation}
-use Rattle.std.proofs.lemmas.List.Sorted.{Contains-permutation, IsPermutation-sym}
+use Rattle.std.proofs.Common.{◌≡◌, ◌<◌, ◌+◌, ◌-◌, ℕ, pos, Bool, true, false, List, None, Some, slice_get, length, sym, ap, ◌∙◌, subst, refl, arith, if◌then◌else◌}
+use Rattle.std.specs.List.{list_any}
 use Rattle.std.proofs.lemmas.Option.{slice_get_within}
 use Rattle.elf64_records.specs.FileHeader.{e_shnum}
 use Rattle.elf64_records.specs.Records.{record_count, rela_of}
@@ -19,14 +17,13 @@ use Rattle.symbol_table.specs.Fields.{fields_of, meets}
 use Rattle.symbol_table.specs.Targets.{definition_of}
 use Rattle.symbol_table.specs.declared.target.CodePlace.{CodePlace}
 use Rattle.symbol_table.specs.Text.{text_sections, text_index, text_number}
-use Rattle.symbol_table.specs.laws.Text.{text_index_found, text_section_at, text_number_at}
+use Rattle.symbol_table.specs.laws.Text.{text_index_found, text_number_at}
 use Rattle.pcrel_rewrite.specs.declared.text_pairs.TextPair.{TextPair}
-use Rattle.pcrel_rewrite.specs.Pairs.{is_number, IsRecordAt, IsLoadAt, IsAsked, IsPair, IsRecognised, ArePairs}
+use Rattle.pcrel_rewrite.specs.Pairs.{is_number, IsRecognised}
 use Rattle.pcrel_rewrite.specs.Words.{ArePairWords}
-use Rattle.pcrel_rewrite.specs.inside.Gathered.{IsAskedBy, IsLoadBy, AskedIn, LoadedIn, AskedAt}
-use Rattle.pcrel_rewrite.specs.inside.Joins.{Joins, Before}
+use Rattle.pcrel_rewrite.specs.inside.Gathered.{IsAskedBy, IsLoadBy}
 use Rattle.pcrel_rewrite.specs.inside.Order.{head_of}
-use Rattle.pcrel_rewrite.specs.inside.Recognised.{AskedOf, LoadedOf, IsFree, IsTaken, TakenAt, IsRecognisedIn}
+use Rattle.pcrel_rewrite.specs.inside.Recognised.{AskedOf, LoadedOf, IsFree, IsRecognisedIn}
 use Rattle.pcrel_rewrite.proofs.Gathering.{some_is}
 use Rattle.pcrel_rewrite.proofs.Tables.{about_within}
 

@@ -1,16 +1,16 @@
 -- The pairs that are found are the recognised ones.
-use Rattle.std.proofs.Common.{◌≡◌, ◌<◌, ◌≤◌, ◌⊎◌, inl, inr, ℕ, List, [], ◌∷◌, None, length, sym, ap, ◌∙◌, subst, refl, arith}
-use Rattle.std.specs.List.{Contains, slice_index_or}
+use Rattle.std.proofs.Common.{◌≡◌, ◌<◌, inl, inr, ℕ, List, [], None, length, sym, subst, refl, arith}
+use Rattle.std.specs.List.{Contains}
 use Rattle.std.specs.List.Sorted.{IsPermutation}
 use Rattle.std.proofs.lemmas.List.Sorted.{Contains-permutation, IsPermutation-sym}
 use Rattle.object_set.specs.Refusals.{set_refusal}
 use Rattle.symbol_table.specs.declared.target.CodePlace.{CodePlace}
 use Rattle.symbol_table.specs.laws.Text.{text_section_at}
 use Rattle.pcrel_rewrite.specs.declared.text_pairs.TextPair.{TextPair}
-use Rattle.pcrel_rewrite.specs.Pairs.{IsRecognised, ArePairs}
+use Rattle.pcrel_rewrite.specs.Pairs.{ArePairs}
 use Rattle.pcrel_rewrite.specs.inside.Joins.{Joins, Before}
 use Rattle.pcrel_rewrite.specs.inside.Order.{head_of}
-use Rattle.pcrel_rewrite.specs.inside.Recognised.{AskedOf, LoadedOf, IsTaken, TakenAt, IsRecognisedIn}
+use Rattle.pcrel_rewrite.specs.inside.Recognised.{AskedOf, LoadedOf, TakenAt, IsRecognisedIn}
 use Rattle.pcrel_rewrite.proofs.FilePairs.{recognised, asked_for, loaded_at, free_of}
 use Rattle.pcrel_rewrite.proofs.Joining.{joins_as, joins_nothing}
 

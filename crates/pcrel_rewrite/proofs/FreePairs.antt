@@ -1,5 +1,5 @@
 -- Pairs behind whose load no field has bytes, up to the end of their access.
-use Rattle.std.proofs.Common.{◌≡◌, ◌<◌, ◌≤◌, ◌+◌, ◌-◌, ℕ, Bool, true, false, not, List, None, Some, slice_get, length, sym, ap, ◌∙◌, subst, refl, arith, IsTrue}
+use Rattle.std.proofs.Common.{◌≡◌, ◌<◌, ◌≤◌, ◌+◌, ◌-◌, ℕ, Bool, true, false, not, List, None, Some, slice_get, length, sym, ◌∙◌, subst, refl, arith, IsTrue}
 use Rattle.std.specs.List.{list_any}
 use Rattle.object_set.specs.declared.places.SectionId.{SectionId}
 use Rattle.object_set.specs.Files.{file_at}

@@ -1,13 +1,11 @@
 -- What one record more asks for or loads.
-use Rattle.std.proofs.Common.{◌≡◌, ◌<◌, ◌≤◌, ◌+◌, ◌-◌, ℕ, ℤ, pos, List, [], ◌∷◌, ◌++◌, Some, false, sym, ap, ◌∙◌, subst, refl, arith}
+use Rattle.std.proofs.Common.{◌≡◌, ◌≤◌, ◌+◌, ◌-◌, ℕ, pos, List, [], ◌∷◌, ◌++◌, Some, sym, ap, ◌∙◌, subst, arith}
 use Rattle.elf64_records.specs.Records.{rela_of}
-use Rattle.elf64_records.specs.Sections.{section_bytes}
 use Rattle.object_set.specs.declared.places.RecordId.{RecordId}
 use Rattle.object_set.specs.Files.{file_at}
 use Rattle.reloc_fields.specs.declared.kind.Kind.TheVariants.{GotPcrel34, PcrelOpt}
 use Rattle.reloc_fields.specs.Table.{line_of}
 use Rattle.symbol_table.specs.declared.target.CodePlace.{CodePlace}
-use Rattle.symbol_table.specs.Text.{text_number}
 use Rattle.pcrel_rewrite.specs.declared.gathered.Gathered.{Gathered}
 use Rattle.pcrel_rewrite.specs.declared.text_pairs.TextPair.{TextPair}
 use Rattle.pcrel_rewrite.specs.TextPairs.{text_pair}

@@ -1,6 +1,6 @@
 -- Pairs that are taken, one after the other.
-use Rattle.std.proofs.Common.{◌≡◌, ◌<◌, ◌≤◌, ◌+◌, ◌-◌, ℕ, List, [], ◌∷◌, ◌++◌, length, sym, ap, ◌∙◌, subst, refl, arith}
-use Rattle.std.specs.List.{Contains, slice_index_or}
+use Rattle.std.proofs.Common.{◌≡◌, ◌<◌, ◌+◌, ◌-◌, ℕ, List, [], ◌∷◌, ◌++◌, length, sym, ◌∙◌, subst, arith}
+use Rattle.std.specs.List.{slice_index_or}
 use Rattle.std.proofs.lemmas.List.{get_or_default}
 use Rattle.symbol_table.specs.declared.target.CodePlace.{CodePlace}
 use Rattle.pcrel_rewrite.specs.declared.text_pairs.TextPair.{TextPair}

@@ -1,6 +1,6 @@
 -- The recognised pairs of a link: a load of a symbol's address from its slot, and the access through that address that a PCREL_OPT record
 -- names (ELFv2 ABI, "Relocation Descriptions": R_PPC64_PCREL_OPT, R_PPC64_GOT_PCREL34).
-use Rattle.std.specs.Prelude.{◌≡◌, ℕ, pos, ◌+◌, ◌-◌, Bool, true, false, List, Option, None, Some, slice_get}
+use Rattle.std.specs.Prelude.{◌≡◌, ℕ, pos, ◌+◌, ◌-◌, Bool, false, List, Option, None, Some, slice_get}
 use Rattle.std.specs.List.{Contains, list_any}
 use Rattle.elf64_records.specs.Records.{rela_of}
 use Rattle.elf64_records.specs.Sections.{section_bytes}

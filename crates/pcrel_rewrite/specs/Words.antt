@@ -5,7 +5,7 @@ use Rattle.std.specs.Prelude.{◌≡◌, ◌≢◌, ◌<◌, ◌≤◌, ◌+◌,
 use Rattle.ppc_bytes.specs.Bytes.{number_at}
 use Rattle.power_insns.specs.declared.instruction.Insn.{Insn}
 use Rattle.power_insns.specs.declared.meaning.Operation.{Operation}
-use Rattle.power_insns.specs.declared.meaning.Operation.TheVariants.{Copy, Calculate, Divide, Compare, Load, Store, Branch, System}
+use Rattle.power_insns.specs.declared.meaning.Operation.TheVariants.{Branch, System}
 use Rattle.power_insns.specs.declared.uses.Access.{Access}
 use Rattle.power_insns.specs.declared.uses.Access.TheVariants as memory
 use Rattle.power_insns.specs.Table.{word_of, Fits as FitsWord}
@@ -13,7 +13,6 @@ use Rattle.power_insns.specs.Operations.{operation_of}
 use Rattle.power_insns.specs.Uses.{Reads, Writes, access_of}
 use Rattle.prefixed_insns.specs.declared.instruction.POp.TheVariants.{Pld}
 use Rattle.prefixed_insns.specs.declared.instruction.PInsn.{PInsn}
-use Rattle.prefixed_insns.specs.declared.short_forms.ShortForm.{ShortForm}
 use Rattle.prefixed_insns.specs.Table.{prefix_of, suffix_of, Fits as FitsPair}
 use Rattle.prefixed_insns.specs.ShortForms.{short_form_of}
 use Rattle.pcrel_rewrite.specs.declared.words.ShortAccess.{ShortAccess}

@@ -123,7 +123,8 @@ impl Gathered {
         requires section { section < e_shnum (file_at resolved.now.files file) }
         requires text { text_number resolved.now.files file section ≡ Some number }
         ensures { let files = resolved.now.files in
-            OnOk result (Gathers (AskedIn files file table) (LoadedIn files file table) self.old self.new) }
+            OnOk result (
+            Gathers (AskedIn files file table) (LoadedIn files file table) self.old self.new) }
     {
         let view = resolved.set().view(file);
         let bytes = view.section(section).bytes;
@@ -144,7 +145,8 @@ impl Gathered {
         requires file { file < length resolved.now.files }
         requires table { table < e_shnum (file_at resolved.now.files file) }
         ensures { let files = resolved.now.files in
-            OnOk result (Gathers (AskedIn files file table) (LoadedIn files file table) self.old self.new) }
+            OnOk result (
+            Gathers (AskedIn files file table) (LoadedIn files file table) self.old self.new) }
     {
         let set = resolved.set();
         // no file of a set is refused, so that what records are about is a section of their file

@@ -90,7 +90,7 @@ fn records_of(alloc: Global, column: &str) -> Result<Vec<Record>, Fail> {
 }
 
 /// A file of text with these bytes and records, and data.
-fn object(alloc: Global, bytes: &[u8], records: &[Record]) -> Result<FileBytes, Fail> {
+fn object<'a>(alloc: Global, bytes: &'a [u8], records: &'a [Record]) -> Result<FileBytes, Fail> {
     let mut symbols = Vec::new(alloc);
     for (name, info, section, value) in SYMBOLS {
         symbols.push(Symbol {

@@ -1,5 +1,5 @@
 -- Places of text in order.
-use Rattle.std.specs.Prelude.{◌≡◌, ℕ, ◌+◌, ◌*◌, ◌^◌, List}
+use Rattle.std.specs.Prelude.{ℕ, ◌+◌, ◌*◌, ◌^◌, List}
 use Rattle.std.specs.List.Sorted.{IsPermutation, IsNonDecreasingBy}
 use Rattle.symbol_table.specs.declared.target.CodePlace.{CodePlace}
 use Rattle.pcrel_rewrite.specs.declared.text_pairs.TextPair.{TextPair}

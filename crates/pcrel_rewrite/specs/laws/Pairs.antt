@@ -1,5 +1,5 @@
 -- What recognised pairs have, where no record is refused.
-use Rattle.std.proofs.Common.{◌≡◌, ◌≢◌, ◌<◌, ◌≤◌, ◌+◌, ◌-◌, ◌*◌, ◌/◌, ◌%◌, ◌⊎◌, ◌&&◌, ◌||◌, inl, inr, ℕ, zero, suc, Bool, true, false, eqb, ltb, max, min, List, [], ◌∷◌, ◌++◌, map, filter, length, Option, None, Some, sym, ap, ◌∙◌, subst, refl, arith}
+use Rattle.std.proofs.Common.{◌≡◌, ◌<◌, ◌≤◌, ◌+◌, ◌-◌, ◌*◌, ◌/◌, ◌⊎◌, ◌&&◌, ◌||◌, inl, inr, ℕ, zero, suc, Bool, true, false, eqb, ltb, max, min, List, [], ◌∷◌, ◌++◌, length, None, Some, sym, ap, ◌∙◌, subst, refl, arith}
 use Rattle.std.specs.List.{Contains, list_any, slice_index_or}
 use Rattle.std.proofs.lemmas.Bool.{cases_lt}
 use Rattle.std.proofs.lemmas.Bool.Decides.{nat_tests}
@@ -16,20 +16,19 @@ use Rattle.object_set.specs.Files.{file_at}
 use Rattle.object_set.specs.Walks.{IsRecord, items_in, record_walk, records_in, record_id}
 use Rattle.power_insns.specs.declared.instruction.Insn.{Insn}
 use Rattle.power_insns.specs.Operations.{operation_of}
-use Rattle.power_insns.specs.Table.{word_of}
-use Rattle.power_insns.specs.Uses.{Reads, access_of}
+use Rattle.power_insns.specs.Uses.{Reads}
 use Rattle.prefixed_insns.specs.laws.ShortForms.{reads_base, short_words_are_high}
 use Rattle.reloc_fields.specs.declared.kind.Kind.{Kind}
 use Rattle.reloc_fields.specs.declared.kind.Kind.TheVariants.{GotPcrel34}
 use Rattle.reloc_fields.specs.Table.{line_of}
 use Rattle.symbol_table.specs.declared.fields.RecordField.{RecordField}
-use Rattle.symbol_table.specs.Fields.{kind_numbered, width_in, field_of, fields_of, fields_meeting, records_of, meets, comes_before, overlaps_earlier}
+use Rattle.symbol_table.specs.Fields.{kind_numbered, width_in, field_of, fields_of, records_of, meets, comes_before}
 use Rattle.symbol_table.specs.Records.{records_refusal}
-use Rattle.symbol_table.specs.laws.Records.{IsSoundField, IsSoundRecord, records_sound, fields_apart}
+use Rattle.symbol_table.specs.laws.Records.{IsSoundField, records_sound, fields_apart}
 use Rattle.pcrel_rewrite.specs.declared.words.Uses.{Uses}
 use Rattle.pcrel_rewrite.specs.Pairs.{IsRecordAt, IsPair, IsRecognised}
 use Rattle.pcrel_rewrite.specs.TextPairs.{text_pair}
-use Rattle.pcrel_rewrite.specs.Words.{IsWordOf, IsAccess, ArePairWords, IsPassed}
+use Rattle.pcrel_rewrite.specs.Words.{IsAccess, ArePairWords, IsPassed}
 use Rattle.pcrel_rewrite.specs.laws.Words.{one_insn, one_register}
 
 -- the access reads the register that holds the address

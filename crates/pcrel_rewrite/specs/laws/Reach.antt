@@ -1,5 +1,5 @@
 -- How far a pair reaches.
-use Rattle.std.proofs.Common.{ℕ, ℤ, pos, ◌<◌, ◌≤◌, arith}
+use Rattle.std.proofs.Common.{ℕ, ℤ, pos, ◌<◌, arith}
 use Rattle.std.specs.Prelude.{◌+ℤ◌, ◌-ℤ◌}
 use Rattle.std.proofs.lemmas.Int.{ints}
 use Rattle.power_insns.specs.Words.{InSigned}

@@ -1,7 +1,6 @@
 -- Words tell what they load, access and spare.
-use Rattle.std.proofs.Common.{◌≡◌, ◌<◌, ◌≤◌, ◌+◌, ℕ, Some, sym, ap, ◌∙◌, subst, arith}
+use Rattle.std.proofs.Common.{◌≡◌, ℕ, Some, sym, ap, ◌∙◌}
 use Rattle.power_insns.specs.declared.instruction.Insn.{Insn}
-use Rattle.power_insns.specs.Table.{word_of}
 use Rattle.power_insns.specs.Operations.{operation_of}
 use Rattle.power_insns.specs.Uses.{access_of}
 use Rattle.power_insns.specs.laws.Words.{one_word}

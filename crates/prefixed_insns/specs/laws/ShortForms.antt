@@ -1,5 +1,5 @@
 -- Loads and stores that have a prefixed form: what they read, the words that they have, and the numbers in them.
-use Rattle.std.proofs.Common.{◌≡◌, ◌<◌, ◌≤◌, ◌⊎◌, inl, inr, ℕ, ℤ, Bool, true, false, eqb, Some, None, ap, subst, refl, arith, if◌then◌else◌}
+use Rattle.std.proofs.Common.{◌≡◌, ◌<◌, ◌≤◌, inl, inr, ℕ, ℤ, Bool, true, false, eqb, Some, ap, subst, refl, arith, if◌then◌else◌}
 use Rattle.std.proofs.lemmas.Bool.Decides.{nat_tests}
 use Rattle.power_insns.specs.declared.instruction.Insn.{Insn}
 use Rattle.power_insns.specs.declared.instruction.Insn.TheVariants.{Lwz, Lbz, Lhz, Lha, Lwa, Ld, Stw, Stb, Sth, Std}

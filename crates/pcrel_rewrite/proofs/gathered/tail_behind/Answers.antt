@@ -1,4 +1,4 @@
-use Rattle.std.proofs.Common.{◌≡◌, ℕ, true, subst, arith}
+use Rattle.std.proofs.Common.{ℕ, subst, arith}
 use Rattle.std.proofs.lemmas.Int.{ints}
 use Rattle.pcrel_rewrite.specs.Words.{ArePairWords}
 use Rattle.pcrel_rewrite.proofs.gathered.tail_behind.Goals as goal

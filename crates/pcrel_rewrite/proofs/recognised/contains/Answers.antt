@@ -1,6 +1,5 @@
-use Rattle.std.proofs.Common.{◌≡◌, ◌<◌, ◌≤◌, ℕ, List, length, true, sym, ap, ◌∙◌, subst, refl, rules}
-use Rattle.std.specs.List.{Contains, slice_index_or}
-use Rattle.symbol_table.specs.declared.target.CodePlace.{CodePlace}
+use Rattle.std.proofs.Common.{sym, subst, refl, rules}
+use Rattle.std.specs.List.{Contains}
 use Rattle.symbol_table.proofs.PlaceOrder.{split_point}
 use Rattle.pcrel_rewrite.specs.inside.Order.{rank}
 use Rattle.pcrel_rewrite.proofs.Sought.{none_sought, rank_sought, same_place}

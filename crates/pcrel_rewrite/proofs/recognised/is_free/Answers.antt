@@ -1,14 +1,9 @@
-use Rattle.std.proofs.Common.{◌≡◌, ◌<◌, ◌≤◌, ◌+◌, ◌-◌, ◌^◌, None, true, false, not, ℕ, List, Some, slice_get, length, sym, ap, ◌∙◌, subst, refl, rules, arith}
+use Rattle.std.proofs.Common.{◌≡◌, ◌<◌, ◌+◌, ◌-◌, None, ℕ, List, length, sym, ap, ◌∙◌, subst, arith}
 use Rattle.std.specs.List.{list_any}
-use Rattle.elf64_records.specs.Sections.{section_bytes}
-use Rattle.object_set.specs.declared.places.SectionId.{SectionId}
 use Rattle.object_set.specs.Files.{file_at}
 use Rattle.object_set.specs.Refusals.{set_refusal}
 use Rattle.symbol_table.specs.Fields.{fields_of, meets}
 use Rattle.symbol_table.specs.Resolved.{section_id}
-use Rattle.symbol_table.specs.Text.{text_sections}
-use Rattle.pcrel_rewrite.specs.Words.{ArePairWords}
-use Rattle.pcrel_rewrite.specs.inside.Recognised.{IsFree}
 use Rattle.pcrel_rewrite.proofs.FreePairs.{free_case, pair_end}
 use Rattle.pcrel_rewrite.proofs.FilePairs.{asked_within, asked_words}
 use Rattle.pcrel_rewrite.proofs.recognised.is_free.Goals as goal

@@ -1,5 +1,4 @@
-use Rattle.std.proofs.Common.{◌≡◌, ◌<◌, ℕ, List, [], length, sym, ap, ◌∙◌, subst, arith}
-use Rattle.pcrel_rewrite.specs.declared.text_pairs.TextPair.{TextPair}
+use Rattle.std.proofs.Common.{◌≡◌, ℕ, List, [], length, ap, ◌∙◌, subst, arith}
 use Rattle.pcrel_rewrite.specs.inside.Joins.{Joins, Before}
 use Rattle.pcrel_rewrite.specs.inside.Recognised.{IsRecognisedIn}
 use Rattle.pcrel_rewrite.proofs.Joining.{joins_more}

@@ -1,9 +1,6 @@
-use Rattle.std.proofs.Common.{◌≡◌, ◌<◌, ℕ, List, length, ◌++◌, ◌∷◌, [], true, sym, ap, ◌∙◌, subst, refl}
+use Rattle.std.proofs.Common.{◌≡◌, true}
 use Rattle.std.specs.List.{slice_index_or}
 use Rattle.std.proofs.lemmas.List.Elements.{Contains-get_or}
-use Rattle.pcrel_rewrite.specs.declared.text_pairs.TextPair.{TextPair}
-use Rattle.pcrel_rewrite.specs.inside.Joins.{TakesIn}
-use Rattle.pcrel_rewrite.specs.inside.Recognised.{TakenAt, Repeats}
 use Rattle.pcrel_rewrite.proofs.TakenPairs.{no_pair, pushed}
 use Rattle.pcrel_rewrite.proofs.recognised.push_if_taken.Goals as goal
 

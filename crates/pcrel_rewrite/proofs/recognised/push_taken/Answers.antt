@@ -1,6 +1,3 @@
-use Rattle.std.proofs.Common.{◌≡◌, ◌<◌, ℕ, List, length, sym, ap, ◌∙◌, subst, arith}
-use Rattle.pcrel_rewrite.specs.inside.Joins.{Joins, Before}
-use Rattle.pcrel_rewrite.specs.inside.Recognised.{TakenAt}
 use Rattle.pcrel_rewrite.proofs.TakenPairs.{taken_more}
 use Rattle.pcrel_rewrite.proofs.recognised.push_taken.Goals as goal
 

@@ -1,4 +1,4 @@
-use Rattle.std.proofs.Common.{◌≡◌, ◌≢◌, sym, ap, ◌∙◌, rules, arith}
+use Rattle.std.proofs.Common.{◌≡◌, ◌≢◌, rules}
 use Rattle.power_insns.specs.declared.uses.Access.TheVariants as memory
 use Rattle.power_insns.specs.Operations.{operation_of}
 use Rattle.power_insns.specs.Uses.{access_of}

@@ -1,4 +1,3 @@
-use Rattle.std.proofs.Common.{◌≡◌, true}
 use Rattle.pcrel_rewrite.proofs.PairWords.{no_load, no_access, pair_from, pair_passes}
 use Rattle.pcrel_rewrite.proofs.words.are_pair_words.Goals as goal
 

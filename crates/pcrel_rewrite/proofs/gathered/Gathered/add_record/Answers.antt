@@ -1,6 +1,4 @@
-use Rattle.std.proofs.Common.{◌≡◌, ◌-◌, ℕ, List, pos, false, true, sym, ap, ◌∙◌, subst, refl, rules}
-use Rattle.elf64_records.specs.Records.{rela_of}
-use Rattle.object_set.specs.Files.{file_at}
+use Rattle.std.proofs.Common.{ℕ, List, subst, refl, rules}
 use Rattle.pcrel_rewrite.specs.Words.{ArePairWords}
 use Rattle.pcrel_rewrite.proofs.Gathering.{asks_one, loads_one}
 use Rattle.pcrel_rewrite.proofs.gathered.Gathered.add_record.Goals as goal

@@ -1,10 +1,10 @@
-use Rattle.std.proofs.Common.{◌≡◌, ◌<◌, ℕ, List, [], sym, ap, ◌∙◌, subst, arith}
+use Rattle.std.proofs.Common.{◌≡◌, ℕ, List, [], ap, ◌∙◌, subst, arith}
 use Rattle.elf64_records.specs.FileHeader.{e_shnum}
 use Rattle.object_set.specs.Files.{file_at}
 use Rattle.symbol_table.specs.declared.target.CodePlace.{CodePlace}
 use Rattle.pcrel_rewrite.specs.declared.text_pairs.TextPair.{TextPair}
 use Rattle.pcrel_rewrite.specs.inside.Joins.{Joins, Before}
-use Rattle.pcrel_rewrite.specs.inside.Gathered.{Gathers, AskedIn, LoadedIn}
+use Rattle.pcrel_rewrite.specs.inside.Gathered.{AskedIn, LoadedIn}
 use Rattle.pcrel_rewrite.proofs.Gathering.{gathers_more}
 use Rattle.pcrel_rewrite.proofs.gathered.Gathered.of_file.Goals as goal
 
