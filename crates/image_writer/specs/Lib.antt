@@ -1,0 +1,2 @@
+pub mod JobShape
+pub mod Text

@@ -1,0 +1,8 @@
+// The image of a link: the shape of its text, which the layout is made of; and the bytes of text, with each call, field and stub written
+// at its address (ELFv2 ABI, "Function Call" and "Relocation Types"; ELF64, "Program Header").
+#![tactic(auto)]
+
+mod sections;
+mod shape;
+
+pub use shape::{call_numbered, shape_of};
