@@ -1,2 +1,3 @@
 pub mod JobShape
 pub mod Text
+pub mod inside

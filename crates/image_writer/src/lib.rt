@@ -4,5 +4,6 @@
 
 mod sections;
 mod shape;
+mod stubs;
 
 pub use shape::{call_numbered, shape_of};

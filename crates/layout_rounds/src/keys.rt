@@ -52,7 +52,7 @@ impl Keyed {
     }
 
     /// How many stub groups there are.
-    pub(crate) fn group_count(&self) -> u32
+    pub fn group_count(&self) -> u32
         ensures count { result ≡ group_count self.now }
         // where their stub areas end, whichever keys are far
         ensures low { (F : ℕ → Bool) (g : ℕ) → g < result →
@@ -98,7 +98,8 @@ impl Keyed {
     /// The stub group of a section.
     pub fn group_of(&self, section: u32) -> u32
         requires { section < section_count self.now }
-        ensures { result ≡ group_at self.now section }
+        ensures group { result ≡ group_at self.now section }
+        ensures within { result < group_count self.now }
     {
         self.spot_of(section).group
     }

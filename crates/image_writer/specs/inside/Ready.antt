@@ -1,0 +1,31 @@
+-- What has to be so before stubs are written.
+use Rattle.std.specs.Prelude.{ℕ, ◌≡◌, ◌+◌, ◌-◌, ◌<◌, ◌≤◌, ◌%◌, Bool, List, length, slice_index}
+use Rattle.stub_kinds.specs.Stubs.{BranchReaches}
+use Rattle.symbol_table.specs.Text.{text_sections}
+use Rattle.layout_rounds.specs.Shapes.{KeyedText}
+use Rattle.layout_rounds.specs.Layout.{PlacedText, section_count, group_count, key_at, stub_size}
+use Rattle.image_writer.specs.Text.{caller_base, place_of, callee_base}
+
+module _ (files : List (List ℕ)) (bases : List ℕ) (t : KeyedText) (F : ℕ → Bool) (p : PlacedText) where
+  -- the TOC base of the callers in each group, told by the first n sections
+  pub record AreCallerBases (n : ℕ) (callers : List ℕ) : Type 0 where
+    pub count : length callers ≡ group_count t
+    pub each : (g : ℕ) → g < group_count t → slice_index callers g ≡ caller_base files bases t F p g n
+
+  -- the stub of key k has room in a text of so many bytes that starts somewhere
+  pub record HasStubRoom (start size k : ℕ) : Type 0 where
+    pub from : start ≤ slice_index p.stubs k
+    pub room : slice_index p.stubs k - start + stub_size t F k ≤ size
+
+  -- its addresses are low multiples of 4, and its branch reaches
+  pub record IsStubReady (k : ℕ) : Type 0 where
+    pub stub_in : k < length p.stubs
+    pub section_in : (key_at t k).section < length p.sections
+    pub text_in : (key_at t k).section < length (text_sections files)
+    pub to_base_low : callee_base files bases t F p k < 0x60000000
+    pub at_low : slice_index p.stubs k < 0x60000000
+    pub to_low : place_of files bases t F p k < 0x60000000
+    pub base_low : caller_base files bases t F p (key_at t k).group (section_count t) < 0x60000000
+    pub at_whole : slice_index p.stubs k % 4 ≡ 0
+    pub to_whole : place_of files bases t F p k % 4 ≡ 0
+    pub reaches : BranchReaches (key_at t k).class (F k) (slice_index p.stubs k) (place_of files bases t F p k)
