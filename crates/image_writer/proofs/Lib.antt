@@ -1,2 +1,3 @@
 pub mod Patching
 pub mod Callers
+pub mod Calling

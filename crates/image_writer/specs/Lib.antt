@@ -1,3 +1,4 @@
 pub mod JobShape
 pub mod Text
+pub mod Calls
 pub mod inside

@@ -2,6 +2,7 @@
 // at its address (ELFv2 ABI, "Function Call" and "Relocation Types"; ELF64, "Program Header").
 #![tactic(auto)]
 
+mod calls;
 mod sections;
 mod shape;
 mod stubs;

@@ -1,10 +1,14 @@
 -- What has to be so before stubs are written.
-use Rattle.std.specs.Prelude.{ℕ, ◌≡◌, ◌+◌, ◌-◌, ◌<◌, ◌≤◌, ◌%◌, Bool, List, length, slice_index}
+use Rattle.std.specs.Prelude.{ℕ, ◌≡◌, ◌+◌, ◌-◌, ◌<◌, ◌≤◌, ◌%◌, ◌^◌, Bool, true, List, Option, None, Some, length, slice_index}
+use Rattle.ppc_bytes.specs.Bytes.{InSigned}
+use Rattle.stub_kinds.specs.declared.class.Class.{Class}
+use Rattle.call_sites.specs.declared.site.CallSite.{CallSite}
 use Rattle.stub_kinds.specs.Stubs.{BranchReaches}
 use Rattle.symbol_table.specs.Text.{text_sections}
 use Rattle.layout_rounds.specs.Shapes.{KeyedText}
-use Rattle.layout_rounds.specs.Layout.{PlacedText, section_count, group_count, key_at, stub_size}
+use Rattle.layout_rounds.specs.Layout.{PlacedText, section_count, group_count, key_count, key_at, stub_size}
 use Rattle.image_writer.specs.Text.{caller_base, place_of, callee_base}
+use Rattle.image_writer.specs.Calls.{call_address, displacement}
 
 module _ (files : List (List ℕ)) (bases : List ℕ) (t : KeyedText) (F : ℕ → Bool) (p : PlacedText) where
   -- the TOC base of the callers in each group, told by the first n sections
@@ -29,3 +33,29 @@ module _ (files : List (List ℕ)) (bases : List ℕ) (t : KeyedText) (F : ℕ �
     pub at_whole : slice_index p.stubs k % 4 ≡ 0
     pub to_whole : place_of files bases t F p k % 4 ≡ 0
     pub reaches : BranchReaches (key_at t k).class (F k) (slice_index p.stubs k) (place_of files bases t F p k)
+
+  -- the call with number n in the layout has a key, with its place and its stub
+  pub record IsBranchReady (n : ℕ) : Type 0 where
+    pub number_in : n < length t.numbers
+    pub key_in : slice_index t.numbers n < key_count t
+    pub stub_in : slice_index t.numbers n < length p.stubs
+    pub section_in : (key_at t (slice_index t.numbers n)).section < length p.sections
+    pub place_low : place_of files bases t F p (slice_index t.numbers n) < 2 ^ 62
+    pub stub_low : slice_index p.stubs (slice_index t.numbers n) < 2 ^ 62
+
+  abbrev pub BranchReadyBy : Option Class → ℕ → Type 0
+  BranchReadyBy None n = Unit {0}
+  BranchReadyBy (Some class) n = IsBranchReady n
+
+  -- a call has room in a text of so many bytes that starts somewhere
+  pub record HasCallRoom (start size : ℕ) (site : CallSite) : Type 0 where
+    pub from : start ≤ call_address files bases t F p site
+    pub room : call_address files bases t F p site - start + 4 ≤ size
+    pub slot_room : site.slot ≡ true → call_address files bases t F p site - start + 8 ≤ size
+
+  -- it reaches where it branches
+  pub record IsCallReady (site : CallSite) (n : ℕ) : Type 0 where
+    pub section_in : site.section < length p.sections
+    pub low : call_address files bases t F p site < 2 ^ 62
+    pub branch : BranchReadyBy site.class n
+    pub reaches : InSigned 26 (displacement files bases t F p site n)
