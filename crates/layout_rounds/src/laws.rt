@@ -1,5 +1,5 @@
 // What callers may rely on beside the contracts.
-ghost use Rattle.std.specs.Prelude.{◌≡◌, ◌≤◌, ◌<◌, ◌+◌, ℕ, List, Bool, true, pos, ◌-ℤ◌};
+ghost use Rattle.std.specs.Prelude.{◌≡◌, ◌≤◌, ◌<◌, ◌+◌, ℕ, List, Bool, true, pos, ◌-ℤ◌, length, slice_index};
 ghost use Rattle.ppc_bytes.specs.Bytes.{InSigned};
 ghost use Rattle.stub_kinds.specs.Stubs.{BranchReaches};
 ghost use Rattle.layout_rounds.specs.declared.shape.Shape.{Shape};
@@ -64,4 +64,13 @@ pub fn branches_stay_in_reach()
         IsKeyed t → IsSpan span → IsClosed t sites span F → (k : ℕ) → k < key_count t →
         BranchReaches (key_at t k).class (F k) (stub_address t F k)
         (address t F (point_in t (key_at t k).section (key_at t k).offset)) }
+{}
+
+/// In the text of a sound shape each key leads to an instruction, and each call has a key.
+pub fn calls_have_keys()
+    ensures keyed { (shape : Shape) (span : ℕ) → IsSound shape → IsKeyed (keyed_text shape span) }
+    ensures count { (shape : Shape) (span : ℕ) → IsSound shape →
+        length (keyed_text shape span).numbers ≡ length shape.sites.items }
+    ensures numbered { (shape : Shape) (span i : ℕ) → IsSound shape → i < length shape.sites.items →
+        slice_index (keyed_text shape span).numbers i < key_count (keyed_text shape span) }
 {}

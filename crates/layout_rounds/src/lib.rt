@@ -17,8 +17,8 @@ pub use far_set::FarSet;
 pub use grouping::{Spot, group};
 pub use keys::Keyed;
 pub use laws::{
-    areas_grow, branches_stay_in_reach, one_far_set, reach_shrinks, sections_and_stubs_are_apart,
-    sections_and_stubs_lie_in_text, some_far_set,
+    areas_grow, branches_stay_in_reach, calls_have_keys, one_far_set, reach_shrinks,
+    sections_and_stubs_are_apart, sections_and_stubs_lie_in_text, some_far_set,
 };
 pub use placing::{Places, place};
 pub use settling::{LayoutFault, Settled, TEXT_LIMIT, settle, settle_rounds};
