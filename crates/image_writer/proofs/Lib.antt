@@ -1,3 +1,4 @@
 pub mod Patching
 pub mod Callers
 pub mod Calling
+pub mod Shaping

@@ -3,6 +3,7 @@ ghost use Rattle.std.specs.Prelude.{◌≡◌, ◌<◌, ◌++◌, length, IfOk, 
 ghost use Rattle.std.specs.List.{slice_index_or};
 ghost use Rattle.call_sites.specs.declared.site.CallSite.{CallSite};
 ghost use Rattle.symbol_table.specs.Text.{text_sections};
+ghost use Rattle.layout_rounds.specs.Shapes.{AreSound};
 ghost use Rattle.image_writer.specs.JobShape.{classed_sites, shape_by, shape_sections, shape_sites};
 
 use crate::sections::section_at;
@@ -14,11 +15,25 @@ use std::alloc::{AllocError, Global};
 use symbol_table::Resolved;
 use toc_groups::DataPlan;
 
+/// How many text sections can be laid out. 4096 files have fewer.
+const SECTION_LIMIT: u32 = 0x1000_0000;
+
 /// The text sections of files of these TOC groups, as the layout sees them.
-fn shape_sections(alloc: Global, res: &Resolved, groups: &[u32]) -> Result<Vec<ShapeSection>, AllocError>
+fn shape_sections(
+    alloc: Global,
+    res: &Resolved,
+    groups: &[u32],
+) -> Result<Vec<ShapeSection>, AllocError>
     requires { length groups.now ≡ length res.now.files }
-    ensures { IfOk result (λ sections. sections.items ≡ shape_sections res.now.files groups.now) }
+    ensures sections { IfOk result (λ sections.
+        sections.items ≡ shape_sections res.now.files groups.now) }
+    ensures sound { IfOk result (λ sections. AreSound sections.items) }
 {
+    // none of the files is refused
+    let _files = res.set().file_count();
+    if res.text_count() >= SECTION_LIMIT {
+        return Err(AllocError);
+    }
     let mut sections = Vec::new(alloc);
     for s in 0..res.text_count() {
         let id = section_at(res, s);

@@ -56,7 +56,7 @@ bytes_whole set file section whole file_in about stored =
     (section_fit file (file_at set file) section (file_fit set file whole file_in) about.within about.kept).stored stored
 
 -- text isn't zeroed, and is kept
-text_sort : (sort : Sort) → is_text_sort sort ≡ true → sort ≡ Text
+pub text_sort : (sort : Sort) → is_text_sort sort ≡ true → sort ≡ Text
 text_sort = elim [ Text ↦ λ _. refl | _ ↦ λ text. cc ]
 
 pub text_about : (b : List ℕ) (section : ℕ) → section < e_shnum b → is_text b section ≡ true → IsAbout b section
