@@ -2,3 +2,4 @@ pub mod Patching
 pub mod Callers
 pub mod Calling
 pub mod Shaping
+pub mod Ready

@@ -1,4 +1,5 @@
 pub mod JobShape
 pub mod Text
 pub mod Calls
+pub mod Job
 pub mod inside

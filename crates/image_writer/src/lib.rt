@@ -6,5 +6,6 @@ mod calls;
 mod sections;
 mod shape;
 mod stubs;
+mod text;
 
 pub use shape::{call_numbered, shape_of};

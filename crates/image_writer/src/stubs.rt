@@ -3,9 +3,9 @@ ghost use Rattle.std.specs.Prelude.{◌≡◌, ◌+◌, ◌*◌, ◌≤◌, ◌<
 ghost use Rattle.stub_kinds.specs.Stubs.{size_of};
 ghost use Rattle.symbol_table.specs.Text.{text_sections};
 ghost use Rattle.layout_rounds.specs.FarSets.{member};
-ghost use Rattle.layout_rounds.specs.Layout.{key_count, section_count};
+ghost use Rattle.layout_rounds.specs.Layout.{key_count, section_count, stub_size};
 ghost use Rattle.placed_bytes.specs.Patches.{all_patched};
-ghost use Rattle.image_writer.specs.Text.{eight_words, stub_patches, stub_text, word_patches};
+ghost use Rattle.image_writer.specs.Text.{eight_words, stub_patch, stub_patches, stub_text, word_patches};
 ghost use Rattle.image_writer.specs.inside.Ready.{AreCallerBases, HasStubRoom, IsStubReady};
 
 use crate::sections::section_at;
@@ -76,6 +76,39 @@ fn key_words(
     )
 }
 
+/// Puts the stub of a key at its address into a text behind the data of a plan, if it isn't empty.
+fn put_stub(
+    text: &mut [u8],
+    res: &Resolved,
+    plan: &DataPlan,
+    settled: &Settled,
+    callers: &[u64],
+    k: u32,
+)
+    requires key { k < key_count settled.now.keyed }
+    requires far { length settled.now.far ≡ key_count settled.now.keyed }
+    requires bases { length plan.now.bases ≡ length res.now.files }
+    requires callers { AreCallerBases res.now.files plan.now.bases settled.now.keyed
+        (member settled.now.far) settled.now.places (section_count settled.now.keyed) callers.now }
+    requires ready { 0 < stub_size settled.now.keyed (member settled.now.far) k →
+        IsStubReady res.now.files plan.now.bases settled.now.keyed (member settled.now.far)
+        settled.now.places k }
+    requires room { 0 < stub_size settled.now.keyed (member settled.now.far) k →
+        HasStubRoom res.now.files plan.now.bases settled.now.keyed (member settled.now.far)
+        settled.now.places plan.now.text_start (length text.old) k }
+    ensures put { text.new ≡ all_patched text.old (stub_patch res.now.files plan.now.bases
+        settled.now.keyed (member settled.now.far) settled.now.places plan.now.text_start k) }
+    ensures size { length text.new ≡ length text.old }
+{
+    let size = size(settled.keyed.key(k).class, settled.far.holds(k));
+    if size == 0 {
+        return;
+    }
+    let words = key_words(res, plan, settled, callers, k);
+    let at = settled.places.stub_at(k) - plan.text_start();
+    put_words(text, at as usize, &words[..(size / 4) as usize]);
+}
+
 /// Puts the stubs at their addresses into a text behind the data of a plan.
 pub fn put_stubs(
     text: &mut [u8],
@@ -88,9 +121,11 @@ pub fn put_stubs(
     requires bases { length plan.now.bases ≡ length res.now.files }
     requires callers { AreCallerBases res.now.files plan.now.bases settled.now.keyed
         (member settled.now.far) settled.now.places (section_count settled.now.keyed) callers.now }
-    requires ready { (k : ℕ) → k < key_count settled.now.keyed → IsStubReady res.now.files
+    requires ready { (k : ℕ) → k < key_count settled.now.keyed →
+        0 < stub_size settled.now.keyed (member settled.now.far) k → IsStubReady res.now.files
         plan.now.bases settled.now.keyed (member settled.now.far) settled.now.places k }
-    requires room { (k : ℕ) → k < key_count settled.now.keyed → HasStubRoom res.now.files
+    requires room { (k : ℕ) → k < key_count settled.now.keyed →
+        0 < stub_size settled.now.keyed (member settled.now.far) k → HasStubRoom res.now.files
         plan.now.bases settled.now.keyed (member settled.now.far) settled.now.places
         plan.now.text_start (length text.old) k }
     ensures put { text.new ≡ all_patched text.old (stub_patches res.now.files plan.now.bases
@@ -98,9 +133,6 @@ pub fn put_stubs(
     ensures size { length text.new ≡ length text.old }
 {
     for k in 0..settled.keyed.key_count() {
-        let words = key_words(res, plan, settled, callers, k);
-        let count = size(settled.keyed.key(k).class, settled.far.holds(k)) / 4;
-        let at = settled.places.stub_at(k) - plan.text_start();
-        put_words(text, at as usize, &words[..count as usize]);
+        put_stub(text, res, plan, settled, callers, k);
     }
 }

@@ -115,6 +115,13 @@ module _ (t : KeyedText) (keyed : IsKeyed t) (F : ℕ → Bool) where
   pub section_whole : (s : ℕ) → s < section_count t → section_address t F s % (section_of t.sections s).align ≡ 0
   section_whole s lt = mod-eq-zero_of_dvd (section_of t.sections s).align (section_divided s lt)
 
+  -- so at one of 4
+  pub section_fourth : (s : ℕ) → s < section_count t → section_address t F s % 4 ≡ 0
+  section_fourth s lt =
+      let sound = keyed.sections.each s lt in
+      let align = (section_of t.sections s).align in
+      mod-eq-zero_of_dvd 4 (dvd_trans 4 (power_divides 4 align (2, refl) sound.power sound.least) (section_divided s lt))
+
   -- and a stub at a multiple of 16
   pub stub_whole : (k : ℕ) → stub_address t F k % 16 ≡ 0
   stub_whole k =

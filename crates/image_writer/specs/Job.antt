@@ -1,0 +1,40 @@
+-- A job whose text is laid out for a closed set of far keys.
+use Rattle.std.specs.Prelude.{ℕ, ◌≡◌, ◌+◌, ◌<◌, ◌≤◌, Bool, true, None, List, length}
+use Rattle.symbol_table.specs.Records.{records_refusal}
+use Rattle.toc_groups.specs.Plans.{LaidData, IsPlan}
+use Rattle.toc_groups.specs.Data.{data_refusal}
+use Rattle.call_sites.specs.declared.site.CallSite.{CallSite}
+use Rattle.call_sites.specs.Sites.{call_sites}
+use Rattle.layout_rounds.specs.declared.shape.Shape.{Shape}
+use Rattle.layout_rounds.specs.FarSets.{member}
+use Rattle.layout_rounds.specs.Shapes.{KeyedText, keyed_text, IsSound, IsSpan}
+use Rattle.layout_rounds.specs.Layout.{PlacedText, key_count, text_end, IsLayout}
+use Rattle.layout_rounds.specs.Reach.{IsClosed}
+use Rattle.layout_rounds.specs.Settled.{call_reaches, text_limit}
+use Rattle.image_writer.specs.JobShape.{shape_sections, shape_sites}
+
+-- a shape is that of files with a plan of data and these call sites
+pub record IsShapeOf (files : List (List ℕ)) (plan : LaidData) (sites : List CallSite) (shape : Shape) : Type 0 where
+  pub start : shape.start ≡ plan.text_start
+  pub sections : shape.sections.items ≡ shape_sections files plan.groups
+  pub sites_are : shape.sites.items ≡ shape_sites sites
+
+-- no record of the files is refused, and these are their plan of data and their call sites; the text of their shape is laid out for a
+-- closed set of far keys, is within its limit, and each call reaches where it branches
+pub record IsJob (files : List (List ℕ)) (plan : LaidData) (sites : List CallSite) (t : KeyedText) (far : List Bool)
+    (places : PlacedText) : Type 0 where
+  pub shape : Shape
+  pub span : ℕ
+  pub records : records_refusal files ≡ None
+  pub plan_is : IsPlan files plan.span plan
+  pub data_fits : data_refusal files plan.span ≡ None
+  pub sites_are : sites ≡ call_sites files plan.groups
+  pub shape_is : IsShapeOf files plan sites shape
+  pub sound : IsSound shape
+  pub is_span : IsSpan span
+  pub keyed_is : t ≡ keyed_text shape span
+  pub far_count : length far ≡ key_count t
+  pub closed : IsClosed t shape.sites.items span (member far)
+  pub laid : IsLayout t (member far) places
+  pub within : text_end t (member far) ≤ shape.start + text_limit
+  pub reached : (i : ℕ) → i < length shape.sites.items → call_reaches t shape.sites.items (member far) span i ≡ true
