@@ -2,4 +2,5 @@ pub mod Patching
 pub mod Callers
 pub mod Calling
 pub mod Shaping
-pub mod Ready
+pub mod Room
+pub mod Giving

@@ -3,9 +3,10 @@
 #![tactic(auto)]
 
 mod calls;
+mod ready;
 mod sections;
 mod shape;
 mod stubs;
-mod text;
+
 
 pub use shape::{call_numbered, shape_of};

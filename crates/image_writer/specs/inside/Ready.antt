@@ -5,9 +5,12 @@ use Rattle.stub_kinds.specs.declared.class.Class.{Class}
 use Rattle.call_sites.specs.declared.site.CallSite.{CallSite}
 use Rattle.stub_kinds.specs.Stubs.{BranchReaches}
 use Rattle.symbol_table.specs.Text.{text_sections}
+use Rattle.toc_groups.specs.Plans.{LaidData}
+use Rattle.layout_rounds.specs.FarSets.{member}
+use Rattle.placed_bytes.specs.Patches.{end_of}
 use Rattle.layout_rounds.specs.Shapes.{KeyedText}
-use Rattle.layout_rounds.specs.Layout.{PlacedText, section_count, group_count, key_count, key_at, stub_size}
-use Rattle.image_writer.specs.Text.{caller_base, place_of, callee_base}
+use Rattle.layout_rounds.specs.Layout.{PlacedText, text_end, section_count, group_count, key_count, key_at, stub_size}
+use Rattle.image_writer.specs.Text.{caller_base, place_of, callee_base, section_patch}
 use Rattle.image_writer.specs.Calls.{call_address, displacement}
 
 module _ (files : List (List ℕ)) (bases : List ℕ) (t : KeyedText) (F : ℕ → Bool) (p : PlacedText) where
@@ -41,7 +44,7 @@ module _ (files : List (List ℕ)) (bases : List ℕ) (t : KeyedText) (F : ℕ �
     pub stub_in : slice_index t.numbers n < length p.stubs
     pub section_in : (key_at t (slice_index t.numbers n)).section < length p.sections
     pub place_low : place_of files bases t F p (slice_index t.numbers n) < 2 ^ 62
-    pub stub_low : slice_index p.stubs (slice_index t.numbers n) < 2 ^ 62
+    pub stub_low : 0 < stub_size t F (slice_index t.numbers n) → slice_index p.stubs (slice_index t.numbers n) < 2 ^ 62
 
   abbrev pub BranchReadyBy : Option Class → ℕ → Type 0
   BranchReadyBy None n = Unit {0}
@@ -59,3 +62,17 @@ module _ (files : List (List ℕ)) (bases : List ℕ) (t : KeyedText) (F : ℕ �
     pub low : call_address files bases t F p site < 2 ^ 62
     pub branch : BranchReadyBy site.class n
     pub reaches : InSigned 26 (displacement files bases t F p site n)
+
+-- in the layout of a job sections and stubs have room in the text, and branches of stubs reach
+pub record HasRooms (files : List (List ℕ)) (plan : LaidData) (t : KeyedText) (far : List Bool) (p : PlacedText) : Type 0 where
+  pub start : plan.text_start ≤ text_end t (member far)
+  pub end : p.end ≡ text_end t (member far)
+  pub far_count : length far ≡ key_count t
+  pub texts : section_count t ≡ length (text_sections files)
+  pub count : length p.sections ≡ length (text_sections files)
+  pub from : (s : ℕ) → s < length p.sections → plan.text_start ≤ slice_index p.sections s
+  pub to : (s : ℕ) → s < length p.sections →
+      end_of (section_patch files p.sections plan.text_start s) ≤ text_end t (member far) - plan.text_start
+  pub ready : (k : ℕ) → k < key_count t → 0 < stub_size t (member far) k → IsStubReady files plan.bases t (member far) p k
+  pub room : (k : ℕ) → k < key_count t → 0 < stub_size t (member far) k →
+      HasStubRoom files plan.bases t (member far) p plan.text_start (text_end t (member far) - plan.text_start) k
