@@ -3,4 +3,5 @@ pub mod Callers
 pub mod Calling
 pub mod Shaping
 pub mod Room
+pub mod Fielding
 pub mod Giving

@@ -57,3 +57,10 @@ same_words b at at' size size' words words' same_at same_size same =
     ap (λ (a : ℕ). all_patched b (word_patches a (take (size / 4) words))) same_at
     ∙ ap (λ (n : ℕ). all_patched b (word_patches at' (take (n / 4) words))) same_size
     ∙ ap (λ (l : List ℕ). all_patched b (word_patches at' (take (size' / 4) l))) same
+
+-- a patch by its place and its bytes
+pub same_patched : (b : List ℕ) (at at' : ℕ) (bytes bytes' : List ℕ) → at ≡ at' → bytes ≡ bytes' →
+    patched b (record { at = at; bytes = bytes }) ≡ patched b (record { at = at'; bytes = bytes' })
+same_patched b at at' bytes bytes' same_at same =
+    ap (λ (a : ℕ). patched b (record { at = a; bytes = bytes })) same_at
+    ∙ ap (λ (l : List ℕ). patched b (record { at = at'; bytes = l })) same

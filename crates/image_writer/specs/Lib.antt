@@ -1,5 +1,6 @@
 pub mod JobShape
 pub mod Text
 pub mod Calls
+pub mod Fields
 pub mod Job
 pub mod inside

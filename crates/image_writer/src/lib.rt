@@ -3,10 +3,10 @@
 #![tactic(auto)]
 
 mod calls;
+mod fields;
 mod ready;
 mod sections;
 mod shape;
 mod stubs;
-
 
 pub use shape::{call_numbered, shape_of};

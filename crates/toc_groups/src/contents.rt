@@ -189,7 +189,7 @@ fn put_slots(memory: &mut DataMemory, res: &Resolved, plan: &DataPlan, text: &Pl
 }
 
 /// A record's field with its value in it: `bytes` are those of its section, and it begins at an offset there.
-fn filled_field(kind: Kind, bytes: &[u8], offset: usize, value: i128) -> u64
+pub fn filled_field(kind: Kind, bytes: &[u8], offset: usize, value: i128) -> u64
     requires fills { 0 < (line_of kind).width }
     requires within { offset + (line_of kind).width ≤ length bytes.now }
     requires holds { Passes (line_of kind).check value }
@@ -261,7 +261,7 @@ fn field_kind(res: &Resolved, id: RecordId) -> Option<Kind>
 }
 
 /// The place of a record, and of its field.
-fn site_of(res: &Resolved, id: RecordId) -> Site
+pub fn site_of(res: &Resolved, id: RecordId) -> Site
     requires { IsRecord res.now.files id }
     ensures { result ≡ site_of (file_at res.now.files id.file) id }
 {

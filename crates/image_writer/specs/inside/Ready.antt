@@ -1,6 +1,14 @@
 -- What has to be so before stubs are written.
-use Rattle.std.specs.Prelude.{ℕ, ◌≡◌, ◌+◌, ◌-◌, ◌<◌, ◌≤◌, ◌%◌, ◌^◌, Bool, true, List, Option, None, Some, length, slice_index}
+use Rattle.std.specs.Prelude.{ℕ, ◌≡◌, ◌⊎◌, ◌+◌, ◌-◌, ◌<◌, ◌≤◌, ◌%◌, ◌^◌, Bool, true, List, Option, None, Some, length, slice_index}
 use Rattle.ppc_bytes.specs.Bytes.{InSigned}
+use Rattle.elf64_records.specs.Records.{rela_of}
+use Rattle.elf64_records.specs.Sections.{section_bytes}
+use Rattle.object_set.specs.declared.places.RecordId.{RecordId}
+use Rattle.object_set.specs.Files.{file_at}
+use Rattle.reloc_fields.specs.declared.kind.Kind.{Kind}
+use Rattle.reloc_fields.specs.Table.{line_of}
+use Rattle.symbol_table.specs.Fields.{kind_numbered}
+use Rattle.toc_groups.specs.Values.{field_address}
 use Rattle.stub_kinds.specs.declared.class.Class.{Class}
 use Rattle.call_sites.specs.declared.site.CallSite.{CallSite}
 use Rattle.stub_kinds.specs.Stubs.{BranchReaches}
@@ -76,3 +84,12 @@ pub record HasRooms (files : List (List ℕ)) (plan : LaidData) (t : KeyedText) 
   pub ready : (k : ℕ) → k < key_count t → 0 < stub_size t (member far) k → IsStubReady files plan.bases t (member far) p k
   pub room : (k : ℕ) → k < key_count t → 0 < stub_size t (member far) k →
       HasStubRoom files plan.bases t (member far) p plan.text_start (text_end t (member far) - plan.text_start) k
+
+-- the field of a record has room in a text of so many bytes that starts somewhere, and lies in its section
+pub record HasFieldRoom (files : List (List ℕ)) (span : ℕ) (text : List ℕ) (start size : ℕ) (r : RecordId) (kind : Kind) : Type 0 where
+  pub known : kind_numbered (rela_of (file_at files r.file) r.table r.entry).kind ≡ Some kind
+  pub wide : ((line_of kind).width ≡ 4) ⊎ ((line_of kind).width ≡ 8)
+  pub within : (rela_of (file_at files r.file) r.table r.entry).offset + (line_of kind).width
+      ≤ length (section_bytes (file_at files r.file) r.section)
+  pub from : start ≤ field_address files span text r
+  pub room : field_address files span text r - start + (line_of kind).width ≤ size
