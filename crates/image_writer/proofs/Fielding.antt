@@ -1,5 +1,13 @@
 -- The bytes of a field are those of its number.
-use Rattle.std.proofs.Common.{ℕ, ℤ, ◌≡◌, List, ap, sym, ◌∙◌}
+use Rattle.std.proofs.Common.{ℕ, ℤ, ◌≡◌, ◌≢◌, ◌<◌, Bool, true, false, not, ◌||◌, ◌==◌, if◌then◌else◌, List, Option, None, Some, is_some, ap, sym, ◌∙◌, subst, refl, arith}
+use Rattle.std.proofs.lemmas.Bool.Decides.{nat_tests}
+use Rattle.elf64_records.specs.First.{when}
+use Rattle.object_set.specs.Sections.{is_text}
+use Rattle.object_set.specs.declared.refusal.Refusal.TheVariants.{Overflow}
+use Rattle.symbol_table.specs.Fields.{kind_numbered}
+use Rattle.symbol_table.specs.Records.{site_of}
+use Rattle.call_sites.specs.Sites.{linkage_of}
+use Rattle.image_writer.specs.Fields.{plain_kind, text_kind, text_overflow_at}
 use Rattle.byteorder.specs.Endian.{little_bytes}
 use Rattle.ppc_bytes.specs.Bytes.{number_at}
 use Rattle.elf64_records.specs.Records.{rela_of}
@@ -8,7 +16,7 @@ use Rattle.object_set.specs.declared.places.RecordId.{RecordId}
 use Rattle.object_set.specs.Files.{file_at}
 use Rattle.reloc_fields.specs.declared.kind.Kind.{Kind}
 use Rattle.reloc_fields.specs.Table.{line_of, filled}
-use Rattle.toc_groups.specs.Values.{record_value}
+use Rattle.toc_groups.specs.Values.{record_value, passes, kind_overflow}
 use Rattle.toc_groups.specs.Contents.{field_bytes}
 
 module _ (files : List (List ℕ)) (span : ℕ) (text : List ℕ) (r : RecordId) (kind : Kind) where
@@ -27,3 +35,69 @@ module _ (files : List (List ℕ)) (span : ℕ) (text : List ℕ) (r : RecordId)
       (is ∙ ap (λ (l : List ℕ). filled line.filling (number_at line.width l offset) value) same_bytes
       ∙ ap (λ (o : ℕ). filled line.filling (number_at line.width own o) value) same_offset
       ∙ ap (filled line.filling (number_at line.width own at)) same_value)
+
+-- what a plain kind has
+plain_case : (kind k : Kind) (t : Bool) → ((line_of kind).width == 0 || is_some (linkage_of kind)) ≡ t →
+    (if t then None else Some kind) ≡ Some k → (kind ≡ k) × ((line_of k).width ≢ 0)
+plain_case kind k true test is = cc
+plain_case kind k false test is =
+    let same : kind ≡ k = cc in
+    (same, subst (λ (x : Kind). (line_of x).width ≢ 0) same (grind (arith, nat_tests, test)))
+
+plain_of : (o : Option Kind) (k : Kind) → plain_kind o ≡ Some k → (o ≡ Some k) × ((line_of k).width ≢ 0)
+plain_of None k is = cc
+plain_of (Some kind) k is =
+    let parts = plain_case kind k ((line_of kind).width == 0 || is_some (linkage_of kind)) refl is in
+    (ap Some parts.0, parts.1)
+
+-- and a record in text
+pub record IsTextField (files : List (List ℕ)) (r : RecordId) (k : Kind) : Type 0 where
+  pub text : is_text (file_at files r.file) r.section ≡ true
+  pub known : kind_numbered (rela_of (file_at files r.file) r.table r.entry).kind ≡ Some k
+  pub fills : 0 < (line_of k).width
+
+text_case : (files : List (List ℕ)) (r : RecordId) (k : Kind) (t : Bool) → is_text (file_at files r.file) r.section ≡ t →
+    (if t then plain_kind (kind_numbered (rela_of (file_at files r.file) r.table r.entry).kind) else None) ≡ Some k → IsTextField files r k
+text_case files r k true test is =
+    let parts = plain_of (kind_numbered (rela_of (file_at files r.file) r.table r.entry).kind) k is in
+    let some = parts.1 in
+    record { text = test; known = parts.0; fills = grind (arith, some) }
+text_case files r k false test is = cc
+
+pub text_field : (files : List (List ℕ)) (r : RecordId) (k : Kind) → text_kind files r ≡ Some k → IsTextField files r k
+unfolding text_kind
+text_field files r k is = text_case files r k (is_text (file_at files r.file) r.section) refl is
+
+-- ---- overflows
+
+module _ (files : List (List ℕ)) (span : ℕ) (text : List ℕ) (r : RecordId) where
+  pub none_overflows : text_kind files r ≡ None → text_overflow_at files span text r ≡ None
+  unfolding text_overflow_at
+  none_overflows is = ap (kind_overflow files span text r) is
+
+  test_of : (k : Kind) (v : ℤ) (t : Bool) → v ≡ record_value files span text r k → t ≡ passes (line_of k).check v →
+      passes (line_of k).check (record_value files span text r k) ≡ t
+  test_of k v t value test = ap (passes (line_of k).check) (sym value) ∙ sym test
+
+  kind_told : (k : Kind) (v : ℤ) (t : Bool) → v ≡ record_value files span text r k → t ≡ passes (line_of k).check v →
+      kind_overflow files span text r (Some k)
+      ≡ when (not t) (Overflow (site_of (file_at files r.file) r) (record_value files span text r k))
+  kind_told k v t value test =
+      ap (λ (b : Bool). when (not b) (Overflow (site_of (file_at files r.file) r) (record_value files span text r k)))
+      (test_of k v t value test)
+
+  pub field_holds : (k : Kind) (v : ℤ) (t : Bool) → text_kind files r ≡ Some k → v ≡ record_value files span text r k →
+      t ≡ passes (line_of k).check v → t ≡ true → text_overflow_at files span text r ≡ None
+  unfolding text_overflow_at
+  field_holds k v t is value test holds =
+      ap (kind_overflow files span text r) is ∙ kind_told k v t value test
+      ∙ ap (λ (b : Bool). when (not b) (Overflow (site_of (file_at files r.file) r) (record_value files span text r k))) holds
+
+  pub field_fails : (k : Kind) (v : ℤ) (t : Bool) → text_kind files r ≡ Some k → v ≡ record_value files span text r k →
+      t ≡ passes (line_of k).check v → t ≡ false →
+      text_overflow_at files span text r ≡ Some (Overflow (site_of (file_at files r.file) r) v)
+  unfolding text_overflow_at
+  field_fails k v t is value test fails =
+      ap (kind_overflow files span text r) is ∙ kind_told k v t value test
+      ∙ ap (λ (b : Bool). when (not b) (Overflow (site_of (file_at files r.file) r) (record_value files span text r k))) fails
+      ∙ ap (λ (x : ℤ). Some (Overflow (site_of (file_at files r.file) r) x)) (sym value)

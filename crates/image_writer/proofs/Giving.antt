@@ -15,7 +15,13 @@ use Rattle.layout_rounds.specs.Reach.{reaches, IsClosed}
 use Rattle.image_writer.specs.Job.{IsJob}
 use Rattle.object_set.specs.Refusals.{set_refusal}
 use Rattle.image_writer.specs.inside.Ready.{HasRooms}
-use Rattle.image_writer.proofs.Room.{LayoutGives, section_count_is, start_is, places_count, section_from, section_to, stub_ready, stub_room}
+use Rattle.image_writer.proofs.Room.{LayoutGives, section_count_is, start_is, places_count, section_from, section_to, stub_ready, stub_room, call_ready, call_room}
+use Rattle.image_writer.proofs.FieldRooms.{field_room}
+use Rattle.image_writer.specs.Calls.{call_at, no_call}
+use Rattle.symbol_table.specs.Records.{records_refusal}
+use Rattle.call_sites.specs.Sites.{call_sites}
+use Rattle.call_sites.specs.laws.SiteFacts.{IsSoundSite}
+use Rattle.call_sites.specs.laws.SiteOrder.{site_sound_at}
 
 -- text ends no earlier than it starts
 end_least : (t : KeyedText) (F : ℕ → Bool) (n : ℕ) → t.start ≤ sections_end t F n
@@ -56,12 +62,20 @@ layout_gives files plan sites t far places job keyed count numbered sections fou
       branches = λ k lt. branches t shape.sites.items job.span (member far) is job.is_span job.closed k lt;
     }
 
+each_sound : (files : List (List ℕ)) (groups : List ℕ) (sites : List CallSite) → set_refusal files ≡ None → records_refusal files ≡ None →
+    sites ≡ call_sites files groups → (i : ℕ) → i < length sites → IsSoundSite files groups (call_at sites i)
+each_sound files groups sites whole none are i lt =
+    subst (λ (l : List CallSite). IsSoundSite files groups (call_at l i)) (sym are)
+    (site_sound_at files groups whole none i no_call (subst (λ (l : List CallSite). i < length l) are lt))
+
 pub rooms : (files : List (List ℕ)) (plan : LaidData) (sites : List CallSite) (t : KeyedText) (far : List Bool) (places : PlacedText)
     (whole : set_refusal files ≡ None) (job : IsJob files plan sites t far places) →
     LayoutGives t job.shape.sites.items job.span (member far) → ((file : ℕ) → slice_index plan.bases file < 0x60000000) →
-    HasRooms files plan t far places
+    HasRooms files plan sites t far places
 rooms files plan sites t far places whole job gives low =
     let least = text_least t (member far) in
+    let sound : (i : ℕ) → i < length sites → IsSoundSite files plan.groups (call_at sites i) =
+    λ i lt. each_sound files plan.groups sites whole job.records job.sites_are i lt in
     let start = start_is files plan sites t far places whole job gives in
     record {
       start = omega (arith, least, start);
@@ -73,4 +87,7 @@ rooms files plan sites t far places whole job gives low =
       to = section_to files plan sites t far places whole job gives;
       ready = stub_ready files plan sites t far places whole job gives low;
       room = stub_room files plan sites t far places whole job gives;
+      calls_ready = λ i lt. call_ready files plan sites t far places whole job gives low i lt (sound i lt);
+      calls_room = λ i lt. call_room files plan sites t far places whole job gives low i lt (sound i lt);
+      fields_room = field_room files plan sites t far places whole job gives;
     }

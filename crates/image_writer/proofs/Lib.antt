@@ -4,4 +4,5 @@ pub mod Calling
 pub mod Shaping
 pub mod Room
 pub mod Fielding
+pub mod FieldRooms
 pub mod Giving

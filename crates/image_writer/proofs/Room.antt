@@ -77,7 +77,7 @@ module _ (files : List (List ℕ)) (plan : LaidData) (sites : List CallSite) (t 
   pub places_count : length places.sections ≡ length (text_sections files)
   places_count = job.laid.section_count_is ∙ section_count_is
 
-  size_is : (s : ℕ) → s < length (text_sections files) →
+  pub size_is : (s : ℕ) → s < length (text_sections files) →
       (let id = text_section files s in section_size t s ≡ length (section_bytes (file_at files id.file) id.section))
   size_is s lt =
       let id = text_section files s in
@@ -105,7 +105,7 @@ module _ (files : List (List ℕ)) (plan : LaidData) (sites : List CallSite) (t 
 
   -- ---- addresses
 
-  text_low : text_end t (member far) < 0x60000001
+  pub text_low : text_end t (member far) < 0x60000001
   text_low =
       let fits = not_past files plan.span job.data_fits in
       let start = job.plan_is.text_start in

@@ -8,12 +8,12 @@ use layout_rounds::{Settled, branches_stay_in_reach, calls_have_keys, sections_a
 use symbol_table::Resolved;
 use toc_groups::DataPlan;
 
-/// In the layout of a job sections and stubs have room in the text, and their branches reach. It does nothing when it runs.
-pub fn sections_have_room(res: &Resolved, plan: &DataPlan, sites: &[CallSite], settled: &Settled)
+/// In the layout of a job sections, stubs, calls and fields have room in the text, and branches reach. It does nothing when it runs.
+pub fn parts_have_room(res: &Resolved, plan: &DataPlan, sites: &[CallSite], settled: &Settled)
     requires job { IsJob res.now.files plan.now sites.now settled.now.keyed settled.now.far
         settled.now.places }
     requires low { (file : ℕ) → slice_index plan.now.bases file < 0x60000000 }
-    ensures { HasRooms res.now.files plan.now settled.now.keyed settled.now.far settled.now.places }
+    ensures { HasRooms res.now.files plan.now sites.now settled.now.keyed settled.now.far settled.now.places }
 {
     // none of the files is refused
     let _files = res.set().file_count();

@@ -19,7 +19,9 @@ use Rattle.placed_bytes.specs.Patches.{end_of}
 use Rattle.layout_rounds.specs.Shapes.{KeyedText}
 use Rattle.layout_rounds.specs.Layout.{PlacedText, text_end, section_count, group_count, key_count, key_at, stub_size}
 use Rattle.image_writer.specs.Text.{caller_base, place_of, callee_base, section_patch}
-use Rattle.image_writer.specs.Calls.{call_address, displacement}
+use Rattle.image_writer.specs.Calls.{call_at, call_number, call_address, displacement}
+use Rattle.image_writer.specs.Fields.{text_kind}
+use Rattle.object_set.specs.Walks.{IsRecord}
 
 module _ (files : List (List ℕ)) (bases : List ℕ) (t : KeyedText) (F : ℕ → Bool) (p : PlacedText) where
   -- the TOC base of the callers in each group, told by the first n sections
@@ -71,8 +73,17 @@ module _ (files : List (List ℕ)) (bases : List ℕ) (t : KeyedText) (F : ℕ �
     pub branch : BranchReadyBy site.class n
     pub reaches : InSigned 26 (displacement files bases t F p site n)
 
--- in the layout of a job sections and stubs have room in the text, and branches of stubs reach
-pub record HasRooms (files : List (List ℕ)) (plan : LaidData) (t : KeyedText) (far : List Bool) (p : PlacedText) : Type 0 where
+-- the field of a record has room in a text of so many bytes that starts somewhere, and lies in its section
+pub record HasFieldRoom (files : List (List ℕ)) (span : ℕ) (text : List ℕ) (start size : ℕ) (r : RecordId) (kind : Kind) : Type 0 where
+  pub known : kind_numbered (rela_of (file_at files r.file) r.table r.entry).kind ≡ Some kind
+  pub wide : ((line_of kind).width ≡ 4) ⊎ ((line_of kind).width ≡ 8)
+  pub within : (rela_of (file_at files r.file) r.table r.entry).offset + (line_of kind).width
+      ≤ length (section_bytes (file_at files r.file) r.section)
+  pub from : start ≤ field_address files span text r
+  pub room : field_address files span text r - start + (line_of kind).width ≤ size
+
+-- in the layout of a job sections, stubs, calls and fields have room in the text, and branches reach
+pub record HasRooms (files : List (List ℕ)) (plan : LaidData) (sites : List CallSite) (t : KeyedText) (far : List Bool) (p : PlacedText) : Type 0 where
   pub start : plan.text_start ≤ text_end t (member far)
   pub end : p.end ≡ text_end t (member far)
   pub far_count : length far ≡ key_count t
@@ -84,12 +95,9 @@ pub record HasRooms (files : List (List ℕ)) (plan : LaidData) (t : KeyedText) 
   pub ready : (k : ℕ) → k < key_count t → 0 < stub_size t (member far) k → IsStubReady files plan.bases t (member far) p k
   pub room : (k : ℕ) → k < key_count t → 0 < stub_size t (member far) k →
       HasStubRoom files plan.bases t (member far) p plan.text_start (text_end t (member far) - plan.text_start) k
-
--- the field of a record has room in a text of so many bytes that starts somewhere, and lies in its section
-pub record HasFieldRoom (files : List (List ℕ)) (span : ℕ) (text : List ℕ) (start size : ℕ) (r : RecordId) (kind : Kind) : Type 0 where
-  pub known : kind_numbered (rela_of (file_at files r.file) r.table r.entry).kind ≡ Some kind
-  pub wide : ((line_of kind).width ≡ 4) ⊎ ((line_of kind).width ≡ 8)
-  pub within : (rela_of (file_at files r.file) r.table r.entry).offset + (line_of kind).width
-      ≤ length (section_bytes (file_at files r.file) r.section)
-  pub from : start ≤ field_address files span text r
-  pub room : field_address files span text r - start + (line_of kind).width ≤ size
+  pub calls_ready : (i : ℕ) → i < length sites →
+      IsCallReady files plan.bases t (member far) p (call_at sites i) (call_number sites i)
+  pub calls_room : (i : ℕ) → i < length sites →
+      HasCallRoom files plan.bases t (member far) p plan.text_start (text_end t (member far) - plan.text_start) (call_at sites i)
+  pub fields_room : (r : RecordId) (kind : Kind) → IsRecord files r → text_kind files r ≡ Some kind →
+      HasFieldRoom files plan.span p.sections plan.text_start (text_end t (member far) - plan.text_start) r kind

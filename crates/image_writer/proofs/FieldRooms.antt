@@ -1,0 +1,96 @@
+-- The field of a record in text lies in the text.
+use Rattle.std.proofs.Common.{ℕ, ◌≡◌, ◌≢◌, ◌<◌, ◌≤◌, ◌+◌, ◌-◌, ◌%◌, ◌^◌, ◌⊎◌, inl, inr, Bool, true, List, Option, None, Some, length, slice_index, if◌then◌else◌, ap, sym, ◌∙◌, subst, refl, arith}
+use Rattle.std.proofs.Math.Nat.{mod-eq_of_lt}
+use Rattle.std.proofs.lemmas.Option.{get_or_from_slice_get}
+use Rattle.elf64_records.specs.Records.{rela_of}
+use Rattle.elf64_records.specs.Sections.{section_bytes, sh_size}
+use Rattle.object_set.specs.declared.places.RecordId.{RecordId}
+use Rattle.object_set.specs.declared.places.SectionId.{SectionId}
+use Rattle.object_set.specs.Files.{file_at}
+use Rattle.object_set.specs.Refusals.{set_refusal}
+use Rattle.object_set.specs.Sections.{is_text}
+use Rattle.object_set.specs.Walks.{IsRecord}
+use Rattle.reloc_fields.specs.declared.kind.Kind.{Kind}
+use Rattle.reloc_fields.specs.declared.kind.Kind.TheVariants as kind
+use Rattle.reloc_fields.specs.Table.{line_of}
+use Rattle.symbol_table.specs.Text.{text_sections, text_index}
+use Rattle.symbol_table.specs.laws.Text.{text_index_found, text_index_within}
+use Rattle.symbol_table.specs.laws.Sections.{record_about}
+use Rattle.symbol_table.specs.laws.Records.{IsSoundField, records_sound}
+use Rattle.call_sites.specs.declared.site.CallSite.{CallSite}
+use Rattle.call_sites.specs.laws.TextSizes.{text_whole}
+use Rattle.toc_groups.specs.Plans.{LaidData}
+use Rattle.toc_groups.specs.Values.{section_place, field_address}
+use Rattle.toc_groups.specs.Data.{section_address as data_address}
+use Rattle.layout_rounds.specs.FarSets.{member}
+use Rattle.layout_rounds.specs.Shapes.{KeyedText, section_of}
+use Rattle.layout_rounds.specs.Layout.{PlacedText, section_count, section_size, text_end, section_address}
+use Rattle.image_writer.specs.Text.{text_section, no_section}
+use Rattle.image_writer.specs.Fields.{text_kind}
+use Rattle.image_writer.specs.Job.{IsJob}
+use Rattle.image_writer.specs.inside.Ready.{HasFieldRoom}
+use Rattle.image_writer.proofs.Fielding.{text_field}
+use Rattle.image_writer.proofs.Room.{LayoutGives, section_count_is, start_is, size_is, text_low}
+
+-- a field has four or eight bytes
+wide : (k : Kind) → 0 < (line_of k).width → ((line_of k).width ≡ 4) ⊎ ((line_of k).width ≡ 8)
+wide = elim [
+  | kind.None ↦ λ some. absurd (omega (arith, some))
+  | kind.Tocsave ↦ λ some. absurd (omega (arith, some))
+  | kind.PcrelOpt ↦ λ some. absurd (omega (arith, some))
+  | kind.Addr64 ↦ λ some. inr refl
+  | kind.Rel64 ↦ λ some. inr refl
+  | kind.Toc ↦ λ some. inr refl
+  | kind.Pcrel34 ↦ λ some. inr refl
+  | kind.GotPcrel34 ↦ λ some. inr refl
+  | _ ↦ λ some. inl refl
+]
+
+module _ (files : List (List ℕ)) (plan : LaidData) (sites : List CallSite) (t : KeyedText) (far : List Bool) (places : PlacedText)
+    (whole : set_refusal files ≡ None) (job : IsJob files plan sites t far places)
+    (gives : LayoutGives t job.shape.sites.items job.span (member far)) where
+  field_of_kind : (r : RecordId) (k : Kind) → IsRecord files r → text_kind files r ≡ Some k → IsSoundField files r k
+  field_of_kind r k here is =
+      let field = text_field files r k is in
+      let sound = records_sound files r job.records here in
+      let both : Some sound.kind ≡ Some k = sym sound.kind_is ∙ field.known in
+      let same : sound.kind ≡ k = cc in
+      subst (IsSoundField files r) same
+      (sound.field (subst (λ (x : Kind). 0 < (line_of x).width) (sym same) field.fills))
+
+  pub field_room : (r : RecordId) (k : Kind) → IsRecord files r → text_kind files r ≡ Some k →
+      HasFieldRoom files plan.span places.sections plan.text_start (text_end t (member far) - plan.text_start) r k
+  field_room r k here is =
+      let b = file_at files r.file in
+      let field = text_field files r k is in
+      let sound = field_of_kind r k here is in
+      let about = record_about files r whole here in
+      let n = text_index files r.file r.section in
+      let within = text_index_within files r.file r.section here.file_in about.within field.text in
+      let id : text_section files n ≡ record { file = r.file; section = r.section } =
+      get_or_from_slice_get (text_sections files) n (record { file = r.file; section = r.section }) no_section
+      (text_index_found files r.file r.section here.file_in about.within field.text) in
+      let size = size_is files plan sites t far places whole job gives n within
+      ∙ ap (λ (s : SectionId). length (section_bytes (file_at files s.file) s.section)) id in
+      let stored = text_whole files r.file r.section whole here.file_in about.within field.text in
+      let counted : n < section_count t =
+      omega (arith, within, section_count_is files plan sites t far places whole job gives) in
+      let lies = gives.sections n counted in
+      let at = job.laid.sections n counted in
+      let start = start_is files plan sites t far places whole job gives in
+      let low = text_low files plan sites t far places whole job gives in
+      let offset = (rela_of b r.table r.entry).offset in
+      let place : section_place files plan.span places.sections r.file r.section ≡ slice_index places.sections n =
+      ap (λ (test : Bool). if test then slice_index places.sections n else data_address files plan.span r.file b r.section) field.text in
+      let sum : slice_index places.sections n + offset + (line_of k).width ≤ text_end t (member far) =
+      omega (arith, lies.to, at, size, stored, sound.within) in
+      let address : field_address files plan.span places.sections r ≡ slice_index places.sections n + offset =
+      ap (λ (p : ℕ). (p + offset) % 2 ^ 64) place
+      ∙ mod-eq_of_lt (omega (arith, sum, low)) in
+      record {
+        known = field.known;
+        wide = wide k field.fills;
+        within = omega (arith, sound.within, stored);
+        from = omega (arith, lies.from, at, start, address);
+        room = omega (arith, lies.from, at, start, address, sum);
+      }
