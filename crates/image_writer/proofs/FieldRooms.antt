@@ -1,14 +1,13 @@
 -- The field of a record in text lies in the text.
-use Rattle.std.proofs.Common.{ℕ, ◌≡◌, ◌≢◌, ◌<◌, ◌≤◌, ◌+◌, ◌-◌, ◌%◌, ◌^◌, ◌⊎◌, inl, inr, Bool, true, List, Option, None, Some, length, slice_index, if◌then◌else◌, ap, sym, ◌∙◌, subst, refl, arith}
+use Rattle.std.proofs.Common.{ℕ, ◌≡◌, ◌<◌, ◌≤◌, ◌+◌, ◌-◌, ◌%◌, ◌^◌, ◌⊎◌, inl, inr, Bool, List, None, Some, length, slice_index, if◌then◌else◌, ap, sym, ◌∙◌, subst, refl, arith}
 use Rattle.std.proofs.Math.Nat.{mod-eq_of_lt}
 use Rattle.std.proofs.lemmas.Option.{get_or_from_slice_get}
 use Rattle.elf64_records.specs.Records.{rela_of}
-use Rattle.elf64_records.specs.Sections.{section_bytes, sh_size}
+use Rattle.elf64_records.specs.Sections.{section_bytes}
 use Rattle.object_set.specs.declared.places.RecordId.{RecordId}
 use Rattle.object_set.specs.declared.places.SectionId.{SectionId}
 use Rattle.object_set.specs.Files.{file_at}
 use Rattle.object_set.specs.Refusals.{set_refusal}
-use Rattle.object_set.specs.Sections.{is_text}
 use Rattle.object_set.specs.Walks.{IsRecord}
 use Rattle.reloc_fields.specs.declared.kind.Kind.{Kind}
 use Rattle.reloc_fields.specs.declared.kind.Kind.TheVariants as kind
@@ -23,8 +22,8 @@ use Rattle.toc_groups.specs.Plans.{LaidData}
 use Rattle.toc_groups.specs.Values.{section_place, field_address}
 use Rattle.toc_groups.specs.Data.{section_address as data_address}
 use Rattle.layout_rounds.specs.FarSets.{member}
-use Rattle.layout_rounds.specs.Shapes.{KeyedText, section_of}
-use Rattle.layout_rounds.specs.Layout.{PlacedText, section_count, section_size, text_end, section_address}
+use Rattle.layout_rounds.specs.Shapes.{KeyedText}
+use Rattle.layout_rounds.specs.Layout.{PlacedText, section_count, text_end}
 use Rattle.image_writer.specs.Text.{text_section, no_section}
 use Rattle.image_writer.specs.Fields.{text_kind}
 use Rattle.image_writer.specs.Job.{IsJob}

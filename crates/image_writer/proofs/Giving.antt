@@ -1,5 +1,5 @@
 -- What a layout gives, from the laws of layouts.
-use Rattle.std.proofs.Common.{ℕ, zero, suc, ◌≡◌, ◌<◌, ◌≤◌, ◌+◌, ◌%◌, Bool, true, List, length, slice_index, max, ap, sym, ◌∙◌, subst, refl, arith, None}
+use Rattle.std.proofs.Common.{ℕ, zero, suc, ◌≡◌, ◌<◌, ◌≤◌, ◌%◌, Bool, true, List, length, slice_index, ap, sym, ◌∙◌, subst, arith, None}
 use Rattle.std.specs.Prelude.{pos, ◌-ℤ◌}
 use Rattle.ppc_bytes.specs.Bytes.{InSigned}
 use Rattle.stub_kinds.specs.Stubs.{BranchReaches}

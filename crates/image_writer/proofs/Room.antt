@@ -1,5 +1,5 @@
 -- A job that is laid out is ready to be written: sections, stubs and calls have room, and branches reach.
-use Rattle.std.proofs.Common.{ℕ, zero, suc, ◌≡◌, ◌<◌, ◌≤◌, ◌+◌, ◌-◌, ◌%◌, Bool, true, false, List, length, slice_index, map, ap, sym, ◌∙◌, subst, refl, arith, Option, Some, None, if◌then◌else◌, ◌==◌, nat_lt}
+use Rattle.std.proofs.Common.{ℕ, zero, suc, ◌≡◌, ◌<◌, ◌≤◌, ◌+◌, ◌-◌, ◌%◌, Bool, true, false, List, length, slice_index, ap, sym, ◌∙◌, subst, refl, arith, Option, Some, None, if◌then◌else◌, ◌==◌, nat_lt}
 use Rattle.std.specs.Prelude.{pos, ◌-ℤ◌}
 use Rattle.std.proofs.lemmas.Bool.Decides.{nat_tests}
 use Rattle.std.proofs.lemmas.Int.{ints}
@@ -17,9 +17,8 @@ use Rattle.layout_rounds.specs.declared.shape.ShapeSection.{ShapeSection}
 use Rattle.layout_rounds.specs.declared.shape.ShapeSite.{ShapeSite}
 use Rattle.ppc_bytes.specs.Bytes.{InSigned}
 use Rattle.stub_kinds.specs.Stubs.{BranchReaches}
-use Rattle.elf64_exec.specs.declared.memory_map.TheConstants.{IMAGE_START, PAGE}
+use Rattle.elf64_exec.specs.declared.memory_map.TheConstants.{PAGE}
 use Rattle.toc_groups.specs.Data.{data_end, data_refusal}
-use Rattle.toc_groups.specs.declared.extents.TheConstants.{DATA_LIMIT}
 use Rattle.layout_rounds.specs.FarSets.{member}
 use Rattle.layout_rounds.specs.Shapes.{KeyedText, aligned, section_of, site_of, IsInText}
 use Rattle.layout_rounds.specs.Layout.{PlacedText, section_count, section_size, key_count, key_at, group_at, stub_size, text_end, address, point_in, section_address, stub_address, IsKeyed}
@@ -264,10 +263,11 @@ module _ (files : List (List ℕ)) (plan : LaidData) (sites : List CallSite) (t 
           ∙ (let at = call_low.at in omega (arith, at)) in
           let to = sym (branch_is n there) in
           let reached = gives.calls (layout_call t job.shape.sites.items (member far) n)
-          (branch_target t job.shape.sites.items (member far) n) (job.reached n there) in
-          (branch_place n there,
-          subst (λ (a : ℕ). InSigned 26 (pos (branch_address files plan.bases t (member far) places n) -ℤ pos a)) from
-          (subst (λ (a : ℕ). InSigned 26 (pos a -ℤ pos (layout_call t job.shape.sites.items (member far) n))) to reached))
+          (branch_target t job.shape.sites.items (member far) n) (job.reached n there) in (
+            branch_place n there,
+            subst (λ (a : ℕ). InSigned 26 (pos (branch_address files plan.bases t (member far) places n) -ℤ pos a)) from
+                (subst (λ (a : ℕ). InSigned 26 (pos a -ℤ pos (layout_call t job.shape.sites.items (member far) n))) to reached),
+          )
 
       pub call_ready : IsCallReady files plan.bases t (member far) places (call_at sites i) (call_number sites i)
       call_ready =

@@ -1,10 +1,8 @@
 -- The shape of a job is sound.
-use Rattle.std.proofs.Common.{ℕ, zero, suc, ◌≡◌, ◌<◌, ◌≤◌, ◌+◌, ◌%◌, ◌^◌, ◌⊎◌, inl, inr, Bool, true, List, [], ◌∷◌, ◌++◌, Option, Some, None, map, length, get_or, ap, sym, ◌∙◌, subst, refl, arith}
+use Rattle.std.proofs.Common.{ℕ, ◌≡◌, ◌<◌, ◌≤◌, ◌^◌, true, List, None, length, sym, subst, arith}
 use Rattle.std.proofs.lemmas.Bool.Decides.{nat_tests}
 use Rattle.std.proofs.lemmas.List.{get_or-map, length-map}
 use Rattle.std.proofs.lemmas.Option.{slice_get-get_or}
-use Rattle.elf64_records.specs.Sections.{sh_size}
-use Rattle.object_set.specs.declared.places.SectionId.{SectionId}
 use Rattle.object_set.specs.Files.{file_at}
 use Rattle.object_set.specs.Refusals.{set_refusal}
 use Rattle.object_set.specs.Sections.{align_of, is_text, sort_of}
@@ -13,7 +11,6 @@ use Rattle.symbol_table.specs.Text.{text_sections}
 use Rattle.symbol_table.specs.laws.Text.{IsTextSection, text_section_at}
 use Rattle.symbol_table.specs.laws.Sections.{text_about, text_sort}
 use Rattle.call_sites.specs.laws.TextSizes.{text_small}
-use Rattle.layout_rounds.specs.declared.shape.ShapeSection.{ShapeSection}
 use Rattle.layout_rounds.specs.Shapes.{no_section as no_shape, section_of, IsSoundSection, AreSound}
 use Rattle.image_writer.specs.JobShape.{section_shape, shape_sections}
 use Rattle.image_writer.specs.Text.{no_section, text_section}
@@ -56,5 +53,5 @@ sections_sound files groups whole few =
     record {
       few = omega (arith, count, few);
       each = λ s lt. (let within : s < length (text_sections files) = omega (arith, count, lt) in
-      subst IsSoundSection (sym (shaped files groups s within)) (section_sound files groups s whole within));
+          subst IsSoundSection (sym (shaped files groups s within)) (section_sound files groups s whole within));
     }

@@ -1,5 +1,5 @@
 -- What relocation records put into a text: their fields, with their values (ELFv2 ABI, "Relocation Types").
-use Rattle.std.specs.Prelude.{ℕ, ◌-◌, Bool, not, List, [], ◌∷◌, ◌||◌, ◌==◌, Option, None, Some, is_some, flat_map, if◌then◌else◌}
+use Rattle.std.specs.Prelude.{ℕ, ◌-◌, List, [], ◌∷◌, ◌||◌, ◌==◌, Option, None, Some, is_some, flat_map, if◌then◌else◌}
 use Rattle.elf64_records.specs.First.{first_in}
 use Rattle.elf64_records.specs.Records.{rela_of}
 use Rattle.object_set.specs.declared.places.RecordId.{RecordId}

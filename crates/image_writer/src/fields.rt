@@ -99,7 +99,12 @@ fn put_field(
 {
     let offset = record_of(res, id).offset as usize;
     let at = field_address(res, plan, places, id) - plan.text_start();
-    put_number(text, at as usize, width(kind), filled_field(kind, bytes, offset, value));
+    put_number(
+        text,
+        at as usize,
+        width(kind),
+        filled_field(kind, bytes, offset, value),
+    );
 }
 
 /// Whether the field of a kind holds a value.

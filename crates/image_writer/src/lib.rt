@@ -8,5 +8,7 @@ mod ready;
 mod sections;
 mod shape;
 mod stubs;
+mod text;
 
 pub use shape::{call_numbered, shape_of};
+pub use text::text_bytes;

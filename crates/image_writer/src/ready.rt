@@ -4,7 +4,9 @@ ghost use Rattle.image_writer.specs.Job.{IsJob};
 ghost use Rattle.image_writer.specs.inside.Ready.{HasRooms};
 
 use call_sites::CallSite;
-use layout_rounds::{Settled, branches_stay_in_reach, calls_have_keys, sections_and_stubs_lie_in_text};
+use layout_rounds::{
+    Settled, branches_stay_in_reach, calls_have_keys, sections_and_stubs_lie_in_text,
+};
 use symbol_table::Resolved;
 use toc_groups::DataPlan;
 

@@ -39,8 +39,9 @@ pub fn put_sections(text: &mut [u8], res: &Resolved, places: &Places, start: u64
         start ≤ slice_index places.now.sections s }
     requires to { (s : ℕ) → s < length places.now.sections →
         end_of (section_patch res.now.files places.now.sections start s) ≤ length text.old }
-    ensures { text.new ≡ all_patched text.old
+    ensures put { text.new ≡ all_patched text.old
         (section_patches res.now.files places.now.sections start) }
+    ensures size { length text.new ≡ length text.old }
 {
     for s in 0..res.text_count() {
         let at = places.section_at(s) - start;

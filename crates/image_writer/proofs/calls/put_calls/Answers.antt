@@ -1,6 +1,4 @@
-use Rattle.std.proofs.Common.{◌≡◌, ◌+◌, ◌-◌, List, ℕ, length, ap, sym, ◌∙◌, refl, arith, rules, to_z, of_z, w64}
-use Rattle.std.specs.Prelude.{ℤ}
-use Rattle.call_sites.specs.declared.site.CallSite.{CallSite}
+use Rattle.std.proofs.Common.{◌≡◌, ◌+◌, ◌-◌, ℕ, ap, sym, ◌∙◌, refl, arith, rules, to_z, of_z, w64}
 use Rattle.layout_rounds.specs.FarSets.{member}
 use Rattle.image_writer.specs.Calls.{call_at, call_patch, call_number, displacement, call_address}
 use Rattle.image_writer.proofs.Patching.{next_patches}
@@ -33,6 +31,6 @@ loop-site-preserved c =
       put = c.put_call.ensures.put ∙ same ∙ next_patches f c.args.text.now c.loop-site.text i c.loop-site.invariant.put;
       size = c.put_call.ensures.size ∙ c.loop-site.invariant.size;
       number = ap (λ (m : ℕ). m + c.classed_count-n.result) c.loop-site.invariant.number
-      ∙ ap (λ (m : ℕ). call_number sites i + m) c.classed_count-n.ensures.count ∙ sym next;
+          ∙ ap (λ (m : ℕ). call_number sites i + m) c.classed_count-n.ensures.count ∙ sym next;
       few = omega (arith, c.classed_count-n.ensures.few, c.loop-site.invariant.few);
     }

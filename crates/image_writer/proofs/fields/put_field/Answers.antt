@@ -1,9 +1,9 @@
-use Rattle.std.proofs.Common.{◌≡◌, ◌-◌, ℕ, List, ap, sym, ◌∙◌, arith, to_z, of_z}
+use Rattle.std.proofs.Common.{◌≡◌, ◌-◌, ℕ, ap, ◌∙◌, arith, to_z, of_z}
 use Rattle.std.specs.Int.{w128}
 use Rattle.std.proofs.lemmas.Int.{ints}
 use Rattle.toc_groups.specs.Values.{field_address}
 use Rattle.toc_groups.specs.Contents.{field_bytes}
-use Rattle.placed_bytes.specs.Patches.{number_patch, patched}
+use Rattle.placed_bytes.specs.Patches.{number_patch}
 use Rattle.image_writer.proofs.Patching.{same_patched}
 use Rattle.image_writer.proofs.Fielding.{field_is}
 use Rattle.image_writer.proofs.fields.put_field.Goals as goal

@@ -1,4 +1,4 @@
-use Rattle.std.proofs.Common.{◌≡◌, ℕ, List, length, ap, sym, ◌∙◌, subst, refl, arith, Some, None}
+use Rattle.std.proofs.Common.{ℕ, List, ap, sym, ◌∙◌, subst, refl}
 use Rattle.std.specs.List.{All, flat_map}
 use Rattle.elf64_records.specs.First.{first_in}
 use Rattle.elf64_records.specs.laws.First.{list_passes}
@@ -6,7 +6,7 @@ use Rattle.object_set.specs.declared.places.RecordId.{RecordId}
 use Rattle.object_set.specs.Walks.{IsRecord, all_items, record_walk}
 use Rattle.object_set.specs.laws.Walks.{all_records_in, first_of, rest_of}
 use Rattle.placed_bytes.specs.Patches.{all_patched}
-use Rattle.image_writer.specs.Fields.{field_patch, field_patches, text_overflow_at, text_overflow}
+use Rattle.image_writer.specs.Fields.{field_patch, text_overflow_at, text_overflow}
 use Rattle.image_writer.specs.inside.Ready.{HasFieldRoom}
 use Rattle.image_writer.proofs.Patching.{append_patches}
 use Rattle.image_writer.proofs.fields.put_fields.Goals as goal

@@ -1,6 +1,5 @@
-use Rattle.std.proofs.Common.{◌≡◌, ◌≤◌, ap, sym, ◌∙◌, arith}
+use Rattle.std.proofs.Common.{ap, sym, ◌∙◌}
 use Rattle.object_set.specs.Refusals.{set_refusal}
-use Rattle.layout_rounds.specs.FarSets.{member}
 use Rattle.image_writer.proofs.Giving.{layout_gives, rooms}
 use Rattle.image_writer.proofs.ready.parts_have_room.Goals as goal
 

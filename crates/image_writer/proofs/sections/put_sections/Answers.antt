@@ -1,4 +1,4 @@
-use Rattle.std.proofs.Common.{◌≡◌, ◌-◌, length, List, ℕ, ap, ◌∙◌, refl, arith}
+use Rattle.std.proofs.Common.{◌-◌, length, List, ℕ, ap, ◌∙◌, refl, arith}
 use Rattle.placed_bytes.specs.Patches.{patched}
 use Rattle.placed_bytes.specs.laws.Patched.{length-patched}
 use Rattle.image_writer.specs.Text.{section_patch}
@@ -17,5 +17,5 @@ loop-s-preserved c =
     record {
       put = put ∙ next_patch f c.args.text.now c.loop-s.text c.loop-s.s c.loop-s.invariant.put;
       size = ap (λ (l : List ℕ). length l) put ∙ length-patched c.loop-s.text (f c.loop-s.s) (omega (arith, room, c.loop-s.invariant.size))
-      ∙ c.loop-s.invariant.size;
+          ∙ c.loop-s.invariant.size;
     }
