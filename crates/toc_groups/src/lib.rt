@@ -15,7 +15,7 @@ mod toc_ends;
 mod values;
 
 pub use contents::{data_bytes, filled_field, site_of};
-pub use laws::{parts_are_apart, plans_are_read};
+pub use laws::{data_is_one, data_is_placed, parts_are_apart, plans_are_read, tests_are_the_table};
 pub use plan::{DataPlan, lay_data};
 pub use values::{field_address, holds_value, record_of, record_value, section_of, symbol_address};
 
