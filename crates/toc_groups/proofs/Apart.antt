@@ -1,31 +1,25 @@
 -- Pieces of data lie one behind the other, each in its region, and no two have an address in common.
-use Rattle.std.proofs.Common.{ℕ, zero, suc, ◌≡◌, ◌<◌, ◌≤◌, ◌+◌, ◌-◌, ◌*◌, ◌⊎◌, inl, inr, Bool, true, false, ◌==◌, List, [], ◌∷◌, ◌++◌, length, take, drop, map, get_or, Some, None, slice_get, ap, sym, subst, ◌∙◌, refl, arith, append_assoc, length-append, if◌then◌else◌}
-use Rattle.std.specs.List.{AllByRecursion, range_with_len}
+use Rattle.std.proofs.Common.{ℕ, zero, suc, ◌≡◌, ◌<◌, ◌≤◌, ◌+◌, ◌-◌, ◌*◌, ◌⊎◌, inl, inr, Bool, true, false, ◌==◌, List, [], ◌∷◌, ◌++◌, length, take, drop, get_or, None, ap, sym, subst, ◌∙◌, refl, arith, append_assoc, if◌then◌else◌}
+use Rattle.std.specs.List.{AllByRecursion}
 use Rattle.std.proofs.lemmas.Bool.{cases_lt}
-use Rattle.std.proofs.lemmas.Bool.Decides.{nat_tests}
-use Rattle.std.proofs.lemmas.List.{append-nil, take_more, take-append-drop}
+use Rattle.std.proofs.lemmas.List.{take_more, take-append-drop}
 use Rattle.std.proofs.lemmas.List.FromFn.{get_or-map-range_with_len, length-map-range_with_len}
-use Rattle.std.proofs.lemmas.Option.{slice_get_within, get_or_from_slice_get}
 use Rattle.elf64_records.specs.FileHeader.{e_shnum}
 use Rattle.elf64_records.specs.Sections.{sh_size}
-use Rattle.elf64_exec.specs.declared.memory_map.TheConstants.{IMAGE_START, PAGE}
-use Rattle.layout_rounds.specs.Shapes.{aligned}
+use Rattle.elf64_exec.specs.declared.memory_map.TheConstants.{IMAGE_START}
 use Rattle.layout_rounds.proofs.Aligned.{power_pos}
-use Rattle.object_set.specs.declared.places.SectionId.{SectionId}
-use Rattle.object_set.specs.declared.places.SymbolId.{SymbolId}
 use Rattle.object_set.specs.declared.sort.Sort.{Sort}
 use Rattle.object_set.specs.declared.sort.Sort.TheVariants.{Text, Zeroed, Toc, Writable, ReadOnly, Dropped}
 use Rattle.object_set.specs.Files.{file_at}
 use Rattle.object_set.specs.Refusals.{set_refusal}
 use Rattle.object_set.specs.Sections.{sort_of, is_kept_sort}
-use Rattle.object_set.specs.Walks.{Walk, items_in, items_before}
+use Rattle.object_set.specs.Walks.{items_in, items_before}
 use Rattle.toc_groups.specs.declared.extents.Extent.{Extent}
-use Rattle.toc_groups.specs.declared.extents.TheConstants.{DATA_END}
 use Rattle.toc_groups.specs.Runs.{placed, behind, run_end, run_place, no_piece, IsFitExtent}
 use Rattle.toc_groups.specs.Sections.{same_sort, section_extent, extent_at, sort_walk, sections_of, sections_before, commons_of}
-use Rattle.toc_groups.specs.Groups.{Group, tocs_of, slot_bytes, group_size, group_with, group_number, group_among, group_count, group_at, group_extent, group_extents}
-use Rattle.toc_groups.specs.Data.{read_only_end, writable_start, groups_end, writable_end, zeroed_end, commons_end, group_start, toc_before, address_by_sort, section_address, common_address, group_slots}
-use Rattle.toc_groups.specs.Parts.{Covers, Part, is_laid_sort, slot_place, start_of, size_of, IsPart, Takes}
+use Rattle.toc_groups.specs.Groups.{tocs_of, slot_bytes, group_size, group_with, group_number, group_among, group_count, group_at, group_extent, group_extents}
+use Rattle.toc_groups.specs.Data.{writable_start, groups_end, writable_end, zeroed_end, commons_end, group_start, toc_before, address_by_sort, group_slots}
+use Rattle.toc_groups.specs.Parts.{Part, is_laid_sort, start_of, size_of, IsPart, Takes}
 use Rattle.toc_groups.specs.Parts.Part.{of_section, of_slot, of_common}
 use Rattle.toc_groups.proofs.Bounds.{tocs_of_files, IsSmallToc}
 use Rattle.toc_groups.proofs.Every.{all_weaker}
@@ -33,9 +27,9 @@ use Rattle.toc_groups.proofs.Runs.{behind_is, run_end-append}
 use Rattle.toc_groups.proofs.Adding.{fit_toc}
 use Rattle.toc_groups.proofs.Commons.{commons_fit}
 use Rattle.toc_groups.proofs.Grouping.{group_end, group_some}
-use Rattle.toc_groups.proofs.Laying.{Begins, aligned_least, run_grows, low_begins, number_begins, in_begins, before_begins, in_all, fit_before, fit_section, fit_in, fit_at}
-use Rattle.toc_groups.proofs.Placing.{number_below, number_rises, same_group, whole_of, groups_fit, fit_group, slots_there, tocs_there, toc_begins, tocs_begin, tocs_more}
-use Rattle.toc_groups.proofs.Running.{AreOrdered, in_order}
+use Rattle.toc_groups.proofs.Laying.{Begins, aligned_least, run_grows, low_begins, number_begins, in_begins, before_begins, in_all, fit_before, fit_section, fit_at}
+use Rattle.toc_groups.proofs.Placing.{number_below, number_rises, same_group, groups_fit, slots_there, tocs_there, toc_begins, tocs_begin, tocs_more}
+use Rattle.toc_groups.proofs.Running.{in_order}
 
 -- ---- lists that begin others
 

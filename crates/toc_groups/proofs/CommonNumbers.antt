@@ -1,14 +1,13 @@
 -- The number of a name's common is one of the commons'.
-use Rattle.std.proofs.Common.{ℕ, zero, suc, ◌≡◌, ◌<◌, ◌≤◌, ◌+◌, inl, inr, Bool, true, false, List, [], ◌∷◌, ◌++◌, length, length-append, map, get_or, take, Option, Some, None, ap, sym, subst, ◌∙◌, refl, arith, position}
+use Rattle.std.proofs.Common.{ℕ, zero, suc, ◌≡◌, ◌<◌, ◌≤◌, ◌+◌, inl, inr, Bool, true, false, List, [], ◌∷◌, ◌++◌, length, length-append, map, get_or, take, Option, Some, ap, sym, ◌∙◌, refl, arith}
 use Rattle.std.specs.Prelude.{filter_map}
-use Rattle.std.specs.List.{list_any, position_or_len}
+use Rattle.std.specs.List.{position_or_len}
 use Rattle.std.specs.Str.{bytes_eq}
 use Rattle.std.proofs.lemmas.Bool.{cases_lt}
 use Rattle.std.proofs.lemmas.List.{length-map}
 use Rattle.std.proofs.lemmas.List.Elements.{filter_map-append}
 use Rattle.symbol_table.specs.declared.candidates.CommonSize.{CommonSize}
 use Rattle.symbol_table.specs.declared.candidates.Candidates.{Candidates}
-use Rattle.symbol_table.specs.declared.candidates.Resolution.{Resolution}
 use Rattle.symbol_table.specs.declared.candidates.Resolution.TheVariants as resolution
 use Rattle.symbol_table.specs.Externals.{External, names_of, external_symbols}
 use Rattle.symbol_table.specs.Candidates.{candidates_of, resolution_of, no_candidates, stands_for, common_in, commons_before, all_candidates, all_commons, common_number}

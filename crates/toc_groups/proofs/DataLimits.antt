@@ -1,8 +1,8 @@
 -- Where data, its bases and text lie at most.
-use Rattle.std.proofs.Common.{ℕ, ◌≡◌, ◌<◌, ◌≤◌, ◌+◌, ◌-◌, ◌*◌, ◌/◌, ◌%◌, ◌^◌, ◌⊎◌, inl, inr, Bool, true, false, ◌==◌, List, length, take, get_or, nat_lt, Some, None, ap, sym, subst, ◌∙◌, refl, arith, if◌then◌else◌, ◌++◌}
+use Rattle.std.proofs.Common.{ℕ, ◌≡◌, ◌<◌, ◌≤◌, ◌+◌, ◌-◌, ◌%◌, ◌⊎◌, inl, inr, Bool, true, false, ◌==◌, List, length, take, get_or, nat_lt, Some, None, ap, refl, arith, if◌then◌else◌, ◌++◌}
 use Rattle.std.proofs.lemmas.Bool.{cases_lt}
 use Rattle.std.proofs.lemmas.Bool.Decides.{nat_tests}
-use Rattle.std.proofs.lemmas.List.FromFn.{get_or-map-range_with_len, length-map-range_with_len}
+use Rattle.std.proofs.lemmas.List.FromFn.{get_or-map-range_with_len}
 use Rattle.elf64_exec.specs.declared.memory_map.TheConstants.{IMAGE_START, PAGE}
 use Rattle.elf64_records.specs.FileHeader.{e_shnum}
 use Rattle.layout_rounds.specs.Shapes.{aligned}
@@ -20,8 +20,8 @@ use Rattle.symbol_table.specs.declared.target.Piece.TheVariants.{Section, Common
 use Rattle.toc_groups.specs.declared.extents.Extent.{Extent}
 use Rattle.toc_groups.specs.Runs.{placed, run_end, no_piece, IsFitExtent}
 use Rattle.toc_groups.specs.Sections.{sort_walk, section_extent, sections_of, sections_before, commons_of}
-use Rattle.toc_groups.specs.Groups.{group_number, group_count, group_at, group_extent, group_extents, tocs_of, slot_bytes}
-use Rattle.toc_groups.specs.Data.{read_only_end, writable_start, groups_end, writable_end, zeroed_end, commons_end, data_end, text_start, group_start, base_of, toc_before, address_by_sort, section_address, common_address, piece_address, data_refusal}
+use Rattle.toc_groups.specs.Groups.{group_number, group_count, group_at, group_extent, group_extents, tocs_of}
+use Rattle.toc_groups.specs.Data.{read_only_end, writable_start, groups_end, writable_end, zeroed_end, commons_end, data_end, text_start, group_start, base_of, toc_before, address_by_sort, piece_address, data_refusal}
 use Rattle.toc_groups.specs.Parts.{Part, IsPieceOf, IsPart, Takes}
 use Rattle.toc_groups.specs.PlacedData.{IsInSegment, IsPlacedData}
 use Rattle.toc_groups.specs.Parts.{is_laid_sort, start_of, size_of}

@@ -1,40 +1,37 @@
 -- Memory while the fields of records are filled: no two fields have a byte in common, and each lies in its section.
-use Rattle.std.proofs.Common.{ℕ, zero, suc, ◌≡◌, ◌<◌, ◌≤◌, ◌+◌, ◌-◌, ◌*◌, ◌%◌, ◌^◌, ◌⊎◌, inl, inr, Bool, true, false, ◌||◌, ◌&&◌, ◌==◌, nat_lt, List, [], length, Some, None, slice_get, slice_index, ap, sym, subst, ◌∙◌, refl, arith, get_or, if◌then◌else◌, Option}
+use Rattle.std.proofs.Common.{ℕ, ◌≡◌, ◌<◌, ◌≤◌, ◌+◌, ◌%◌, ◌^◌, ◌⊎◌, inl, inr, Bool, true, false, ◌||◌, ◌&&◌, ◌==◌, nat_lt, List, length, Some, None, slice_index, ap, sym, subst, ◌∙◌, refl, arith, if◌then◌else◌}
 use Rattle.std.proofs.lemmas.Bool.{cases_lt}
 use Rattle.std.proofs.lemmas.Bool.Decides.{nat_tests}
-use Rattle.std.proofs.lemmas.Option.{slice_get_within}
-use Rattle.byteorder.specs.Endian.{little_bytes}
 use Rattle.byteorder.specs.Numbers.{length-bytes_low_first}
 use Rattle.elf64_records.specs.FileHeader.{e_shnum}
 use Rattle.elf64_records.specs.Records.{record_count, rela_of}
-use Rattle.elf64_records.specs.Sections.{section_bytes, sh_size, sh_info}
+use Rattle.elf64_records.specs.Sections.{section_bytes, sh_info}
 use Rattle.object_set.specs.declared.places.RecordId.{RecordId}
 use Rattle.object_set.specs.declared.places.SectionId.{SectionId}
-use Rattle.object_set.specs.declared.places.SymbolId.{SymbolId}
 use Rattle.object_set.specs.declared.sort.Sort.{Sort}
 use Rattle.object_set.specs.declared.sort.Sort.TheVariants.{Text, Zeroed, Toc, Writable, ReadOnly, Dropped}
 use Rattle.object_set.specs.Files.{file_at}
 use Rattle.object_set.specs.Refusals.{set_refusal}
 use Rattle.object_set.specs.Sections.{is_text, is_text_sort, sort_of}
-use Rattle.object_set.specs.Walks.{IsRecord, record_id}
+use Rattle.object_set.specs.Walks.{IsRecord}
 use Rattle.ppc_bytes.specs.Bytes.{number_at}
 use Rattle.reloc_fields.specs.declared.kind.Kind.{Kind}
 use Rattle.reloc_fields.specs.Table.{line_of, filled}
-use Rattle.symbol_table.specs.Fields.{kind_numbered, width_in, field_of, comes_before, overlaps_earlier}
+use Rattle.symbol_table.specs.Fields.{kind_numbered, width_in, field_of, comes_before}
 use Rattle.symbol_table.specs.Records.{records_refusal}
 use Rattle.symbol_table.specs.Sites.{is_data_sort}
 use Rattle.symbol_table.specs.Text.{text_index}
 use Rattle.symbol_table.specs.laws.Records.{IsSoundField, fields_apart}
 use Rattle.symbol_table.specs.laws.Sections.{record_about}
-use Rattle.toc_groups.specs.Data.{section_address, data_refusal, group_slots, commons_end, zeroed_end, writable_end}
+use Rattle.toc_groups.specs.Data.{section_address, data_refusal}
 use Rattle.toc_groups.specs.Groups.{group_count}
 use Rattle.toc_groups.specs.Parts.{Covers, slot_place}
 use Rattle.toc_groups.specs.Plans.{data_ends}
 use Rattle.toc_groups.specs.Values.{symbol_address, section_place, field_address, record_value}
-use Rattle.toc_groups.specs.Contents.{HoldsBytes, HoldsData, IsStored, IsDataField, IsSlot, IsFree, HasByte, section_start, section_size, field_bytes}
+use Rattle.toc_groups.specs.Contents.{HoldsBytes, HoldsData, IsStored, IsDataField, section_start, section_size, field_bytes}
 use Rattle.toc_groups.specs.inside.Memory.{Puts, HasRange}
-use Rattle.toc_groups.specs.inside.Filled.{NoSection, SlotFirst, RecordFirst, AreSlotted, AreFilled}
-use Rattle.toc_groups.proofs.Filling.{section, same_section, one_stored, slot_beside}
+use Rattle.toc_groups.specs.inside.Filled.{RecordFirst, AreSlotted, AreFilled}
+use Rattle.toc_groups.proofs.Filling.{section, one_stored, slot_beside}
 use Rattle.toc_groups.proofs.RecordValues.{sound_field}
 use Rattle.toc_groups.proofs.Rooms.{stored_range, data_low}
 use Rattle.toc_groups.proofs.Running.{in_order}

@@ -1,14 +1,11 @@
 -- A record's field: its width, its bytes, and whether it holds its value.
-use Rattle.std.proofs.Common.{ℕ, ℤ, ◌≡◌, ◌≢◌, ◌<◌, ◌≤◌, ◌+◌, ◌*◌, ◌^◌, ◌⊎◌, inl, inr, Bool, true, false, not, List, length, Option, Some, None, ap, sym, subst, ◌∙◌, refl, arith, if◌then◌else◌}
+use Rattle.std.proofs.Common.{ℕ, ℤ, ◌≡◌, ◌≢◌, ◌<◌, ◌≤◌, ◌+◌, ◌^◌, inl, inr, Bool, true, false, not, List, length, Option, Some, None, ap, sym, ◌∙◌, refl, arith, if◌then◌else◌}
 use Rattle.byteorder.specs.Endian.{little_bytes}
-use Rattle.elf64_records.specs.FileHeader.{e_shnum}
 use Rattle.elf64_records.specs.First.{when}
 use Rattle.elf64_records.specs.Records.{rela_of}
 use Rattle.elf64_records.specs.Sections.{section_bytes}
 use Rattle.object_set.specs.declared.places.RecordId.{RecordId}
-use Rattle.object_set.specs.declared.refusal.Refusal.{Refusal}
 use Rattle.object_set.specs.declared.refusal.Refusal.TheVariants.{Overflow}
-use Rattle.object_set.specs.declared.sort.Sort.{Sort}
 use Rattle.object_set.specs.Files.{file_at}
 use Rattle.object_set.specs.Sections.{sort_of}
 use Rattle.object_set.specs.Walks.{IsRecord}
@@ -21,7 +18,6 @@ use Rattle.reloc_fields.specs.laws.Filled.{filled_number}
 use Rattle.symbol_table.specs.Fields.{kind_numbered}
 use Rattle.symbol_table.specs.Records.{site_of}
 use Rattle.symbol_table.specs.Sites.{is_data_sort}
-use Rattle.symbol_table.proofs.KindNumbers.{kind_found, kind_number, no_kind}
 use Rattle.toc_groups.specs.declared.pieces.DataEnds.{DataEnds}
 use Rattle.toc_groups.specs.Contents.{IsDataField, field_bytes, section_start, section_size}
 use Rattle.toc_groups.specs.Plans.{data_ends}

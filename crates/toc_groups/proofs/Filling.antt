@@ -1,5 +1,5 @@
 -- Memory while sections, slots and fields are put into it: each stands where it was put, since no two have an address in common.
-use Rattle.std.proofs.Common.{ℕ, zero, suc, ◌≡◌, ◌≢◌, ◌<◌, ◌≤◌, ◌+◌, ◌-◌, ◌*◌, ◌⊎◌, inl, inr, Bool, true, false, List, [], length, Some, None, slice_get, ap, sym, subst, ◌∙◌, refl, arith, get_or}
+use Rattle.std.proofs.Common.{ℕ, ◌≡◌, ◌≢◌, ◌<◌, ◌+◌, ◌⊎◌, inl, inr, Bool, true, List, length, Some, None, slice_get, ap, sym, subst, ◌∙◌, refl, arith, get_or}
 use Rattle.std.proofs.lemmas.Option.{slice_get_within}
 use Rattle.std.proofs.lemmas.Bool.{cases_lt}
 use Rattle.byteorder.specs.Endian.{little_bytes}
@@ -16,13 +16,12 @@ use Rattle.object_set.specs.Sections.{sort_of, is_kept_sort}
 use Rattle.symbol_table.specs.laws.Sections.{bytes_whole}
 use Rattle.symbol_table.specs.Sites.{is_data_sort}
 use Rattle.toc_groups.specs.Data.{group_slots}
-use Rattle.toc_groups.specs.Groups.{group_count}
-use Rattle.toc_groups.specs.Parts.{Covers, Part, is_laid_sort, slot_place, Takes}
+use Rattle.toc_groups.specs.Parts.{Covers, is_laid_sort, slot_place, Takes}
 use Rattle.toc_groups.specs.Parts.Part.{of_section, of_slot}
 use Rattle.toc_groups.specs.Values.{symbol_address}
 use Rattle.toc_groups.specs.Contents.{HoldsBytes, IsStored, IsSlot, section_start, section_size}
 use Rattle.toc_groups.specs.inside.Memory.{Puts}
-use Rattle.toc_groups.specs.inside.Filled.{SectionFirst, AreCopied, SlotFirst, NoSection, AreSlotted}
+use Rattle.toc_groups.specs.inside.Filled.{SectionFirst, AreCopied, SlotFirst, AreSlotted}
 use Rattle.toc_groups.proofs.Apart.{parts_apart}
 
 pub laid_of_data : (s : Sort) → is_data_sort s ≡ true → is_laid_sort s ≡ true

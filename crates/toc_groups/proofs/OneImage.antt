@@ -1,19 +1,18 @@
 -- What memory holds of data is determined: each address is a field's, another byte of a section, a slot's, or free.
-use Rattle.std.proofs.Common.{ℕ, zero, suc, ◌≡◌, ◌<◌, ◌≤◌, ◌+◌, ◌-◌, ◌⊎◌, inl, inr, Bool, true, false, List, [], ◌∷◌, ◌++◌, length, map, Option, Some, None, slice_get, slice_index, get_or, ap, sym, subst, ◌∙◌, refl, arith}
+use Rattle.std.proofs.Common.{ℕ, zero, suc, ◌≡◌, ◌<◌, ◌+◌, ◌-◌, ◌⊎◌, inl, inr, Bool, true, false, List, [], ◌∷◌, ◌++◌, length, map, Option, Some, None, slice_get, get_or, ap, sym, subst, ◌∙◌, refl, arith}
 use Rattle.std.specs.List.{range_with_len}
 use Rattle.std.proofs.lemmas.Bool.{cases_lt}
 use Rattle.elf64_exec.specs.declared.layout.Segment.{Segment}
 use Rattle.elf64_exec.specs.declared.memory_map.TheConstants.{IMAGE_START, READ_ONLY, WRITABLE}
 use Rattle.elf64_records.specs.FileHeader.{e_shnum}
 use Rattle.elf64_records.specs.Records.{record_count, rela_of}
-use Rattle.elf64_records.specs.Sections.{section_bytes, sh_info}
+use Rattle.elf64_records.specs.Sections.{sh_info}
 use Rattle.object_set.specs.declared.places.RecordId.{RecordId}
 use Rattle.object_set.specs.declared.places.SectionId.{SectionId}
 use Rattle.object_set.specs.declared.places.SymbolId.{SymbolId}
 use Rattle.object_set.specs.Files.{file_at}
-use Rattle.object_set.specs.Refusals.{set_refusal}
 use Rattle.object_set.specs.Sections.{sort_of}
-use Rattle.object_set.specs.Walks.{IsSection, IsRecord, record_id}
+use Rattle.object_set.specs.Walks.{record_id}
 use Rattle.reloc_fields.specs.declared.kind.Kind.{Kind}
 use Rattle.reloc_fields.specs.Table.{line_of}
 use Rattle.symbol_table.specs.Fields.{kind_numbered}
@@ -22,7 +21,7 @@ use Rattle.toc_groups.specs.Data.{read_only_end, writable_start, writable_end, c
 use Rattle.toc_groups.specs.Groups.{group_count}
 use Rattle.toc_groups.specs.Parts.{Covers, slot_place}
 use Rattle.toc_groups.specs.Values.{field_address, symbol_address}
-use Rattle.toc_groups.specs.Contents.{HoldsData, AreDataSegments, IsStored, IsDataField, IsSlot, HasByte, section_start, section_size, field_bytes, bytes_between, data_segments, segment_of}
+use Rattle.toc_groups.specs.Contents.{HoldsData, AreDataSegments, IsStored, IsDataField, IsSlot, HasByte, section_start, section_size, field_bytes, bytes_between}
 use Rattle.toc_groups.specs.inside.Filled.{segment}
 use Rattle.toc_groups.proofs.FieldFilling.{AreSound, field_at, field_long, home, offset_of}
 use Rattle.toc_groups.proofs.Filling.{section}

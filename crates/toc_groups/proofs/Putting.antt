@@ -1,20 +1,17 @@
 -- Bytes that are put into memory.
-use Rattle.std.proofs.Common.{ℕ, ◌≡◌, ◌<◌, ◌≤◌, ◌+◌, ◌-◌, ◌⊎◌, inl, inr, Bool, true, false, nat_lt, List, [], ◌∷◌, ◌++◌, length, take, drop, get_or, ap, sym, subst, ◌∙◌, refl, arith, if◌then◌else◌}
+use Rattle.std.proofs.Common.{ℕ, ◌≡◌, ◌<◌, ◌≤◌, ◌+◌, ◌-◌, inl, inr, Bool, true, false, nat_lt, List, ◌++◌, length, take, drop, get_or, ap, sym, subst, ◌∙◌, refl, arith, if◌then◌else◌}
 use Rattle.std.proofs.Common.{Vec, Global}
 use Rattle.std.specs.Vec.{with_items}
 use Rattle.std.proofs.lemmas.List.{with_items_is}
 use Rattle.std.proofs.lemmas.Bool.{cases_lt}
 use Rattle.std.proofs.lemmas.Bool.Decides.{nat_tests}
 use Rattle.std.proofs.lemmas.List.{get_or_append_left, get_or-append_right, get_or-drop, get_or-take, length-take-le}
-use Rattle.byteorder.specs.Endian.{little_bytes}
-use Rattle.byteorder.specs.Numbers.{length-bytes_low_first}
 use Rattle.elf64_exec.specs.declared.memory_map.TheConstants.{IMAGE_START}
-use Rattle.placed_bytes.specs.Patches.{Patch, patched, number_patch, end_of}
+use Rattle.placed_bytes.specs.Patches.{Patch, patched, end_of}
 use Rattle.placed_bytes.specs.laws.Patched.{length-patched}
 use Rattle.toc_groups.specs.declared.pieces.DataEnds.{DataEnds}
-use Rattle.toc_groups.specs.Contents.{HoldsBytes, bytes_between}
+use Rattle.toc_groups.specs.Contents.{bytes_between}
 use Rattle.toc_groups.proofs.Planning.{same_list}
-use Rattle.toc_groups.specs.Parts.{Covers}
 use Rattle.toc_groups.specs.inside.Memory.{TwoParts, IsShaped, byte_of, HasRange, Puts}
 
 -- ---- a list with a patch

@@ -1,18 +1,13 @@
 -- What is read of a plan is what the files have: addresses of pieces and targets, bases and slots.
-use Rattle.std.proofs.Common.{ℕ, ℤ, zero, suc, ◌≡◌, ◌<◌, ◌≤◌, ◌+◌, ◌-◌, ◌*◌, ◌⊎◌, inl, inr, Bool, true, false, ◌==◌, ◌||◌, ◌&&◌, List, [], ◌∷◌, ◌++◌, length, length-append, map, get_or, Option, Some, None, slice_get, ap, sym, subst, ◌∙◌, refl, arith, take, if◌then◌else◌}
-use Rattle.std.specs.List.{range_with_len, position_or_len, filter_map}
+use Rattle.std.proofs.Common.{ℕ, ℤ, zero, suc, ◌≡◌, ◌<◌, ◌+◌, ◌*◌, Bool, true, false, ◌==◌, List, [], ◌∷◌, length, length-append, map, get_or, Option, Some, None, slice_get, ap, sym, subst, ◌∙◌, refl, arith, if◌then◌else◌}
+use Rattle.std.specs.List.{range_with_len}
 use Rattle.std.specs.Option.{option_map}
-use Rattle.std.specs.Prelude.{IsSome, pos}
-use Rattle.std.specs.Str.{bytes_eq}
-use Rattle.std.specs.Int.{w64, cast_signed}
-use Rattle.std.proofs.lemmas.Bool.{cases_lt}
 use Rattle.std.proofs.lemmas.Bool.Decides.{nat_tests}
 use Rattle.std.proofs.lemmas.List.{length-map}
 use Rattle.std.proofs.lemmas.List.FromFn.{get_or-map-range_with_len, length-map-range_with_len}
 use Rattle.std.proofs.lemmas.Option.{slice_get_within, get_or_from_slice_get}
 use Rattle.elf64_records.specs.FileHeader.{e_shnum}
 use Rattle.elf64_records.specs.Symbols.{symbol_count, st_value}
-use Rattle.object_set.specs.declared.places.SectionId.{SectionId}
 use Rattle.object_set.specs.declared.places.SymbolId.{SymbolId}
 use Rattle.object_set.specs.declared.sort.Sort.{Sort}
 use Rattle.object_set.specs.declared.sort.Sort.TheVariants.{Text, Zeroed, Toc, Writable, ReadOnly, Dropped}
@@ -23,24 +18,18 @@ use Rattle.object_set.specs.Symbols.{name_of, is_local, is_weak, has_section, se
 use Rattle.object_set.specs.Walks.{items_in, items_before, all_items, index_of, section_walk}
 use Rattle.object_set.specs.laws.Fit.{file_fit, symbol_fit}
 use Rattle.object_set.specs.laws.Walks.{item_at, get_left, get_right}
-use Rattle.symbol_table.specs.declared.candidates.CommonSize.{CommonSize}
-use Rattle.symbol_table.specs.declared.candidates.Candidates.{Candidates}
 use Rattle.symbol_table.specs.declared.candidates.Resolution.{Resolution}
 use Rattle.symbol_table.specs.declared.candidates.Resolution.TheVariants as resolution
 use Rattle.symbol_table.specs.declared.target.Piece.{Piece}
 use Rattle.symbol_table.specs.declared.target.Piece.TheVariants.{Section, Common}
 use Rattle.symbol_table.specs.declared.target.Target.{Target}
 use Rattle.symbol_table.specs.declared.target.Target.TheVariants.{Data, Code, Number, TocBase, WeakNone}
-use Rattle.symbol_table.specs.Candidates.{stands_for, all_candidates, all_commons, common_number, commons_before, common_in, resolution_of, candidates_of, names_seen}
-use Rattle.symbol_table.specs.Externals.{names_of, external_symbols}
+use Rattle.symbol_table.specs.Candidates.{stands_for, all_commons, common_number}
 use Rattle.symbol_table.specs.Targets.{IsPlaced, plus_addend, section_target, index_target, own_target, named_target, external_target, target_of}
-use Rattle.symbol_table.specs.Text.{text_sections}
 use Rattle.symbol_table.specs.laws.Definitions.{definition_placed}
-use Rattle.toc_groups.specs.Runs.{run_place}
 use Rattle.toc_groups.specs.Sections.{commons_of, common_extent}
 use Rattle.toc_groups.specs.Groups.{group_number, group_count}
-use Rattle.toc_groups.specs.Slots.{names_symbol}
-use Rattle.toc_groups.specs.Data.{group_start, group_slots, base_of, section_address, address_walk, common_address, piece_addresses, piece_address, target_address, slot_number, slot_row, slot_address}
+use Rattle.toc_groups.specs.Data.{group_start, group_slots, base_of, section_address, address_walk, common_address, piece_address, target_address, slot_number, slot_row, slot_address}
 use Rattle.toc_groups.specs.Plans.{LaidData, IsPlan, IsLaidPiece, IsLaidTarget, IsLaidSymbol, piece_index, address_in, row_in, slot_in}
 use Rattle.toc_groups.specs.Parts.{IsPieceOf, IsTargetOf}
 use Rattle.symbol_table.specs.laws.Targets.{code_within}

@@ -1,17 +1,15 @@
 -- Values of records: a record that fills a field goes somewhere, and what its value is made of is read of the plan.
-use Rattle.std.proofs.Common.{ℕ, ℤ, ◌≡◌, ◌<◌, ◌≤◌, ◌+◌, Bool, true, false, ◌==◌, List, length, get_or, Option, Some, None, slice_get, ap, sym, subst, ◌∙◌, refl, arith, if◌then◌else◌}
+use Rattle.std.proofs.Common.{ℕ, ℤ, ◌≡◌, ◌<◌, Bool, true, false, ◌==◌, List, length, get_or, Option, Some, None, slice_get, ap, sym, subst, ◌∙◌, refl, arith, if◌then◌else◌}
 use Rattle.std.specs.Prelude.{IsSome, pos, unwrap_or}
 use Rattle.std.specs.Option.{option_map}
 use Rattle.std.proofs.lemmas.Option.{get_or_from_slice_get}
-use Rattle.elf64_records.specs.FileHeader.{e_shnum}
 use Rattle.elf64_records.specs.Records.{rela_of}
-use Rattle.elf64_records.specs.Symbols.{symbol_count, st_value}
+use Rattle.elf64_records.specs.Symbols.{st_value}
 use Rattle.object_set.specs.declared.places.RecordId.{RecordId}
 use Rattle.object_set.specs.declared.sort.Sort.{Sort}
 use Rattle.object_set.specs.declared.sort.Sort.TheVariants.{Text, Zeroed, Toc, Writable, ReadOnly, Dropped}
 use Rattle.object_set.specs.Files.{file_at}
-use Rattle.object_set.specs.Refusals.{set_refusal}
-use Rattle.object_set.specs.Sections.{is_text, sort_of}
+use Rattle.object_set.specs.Sections.{sort_of}
 use Rattle.object_set.specs.Symbols.{name_of, is_local, is_weak, section_index, is_absolute, is_toc_base}
 use Rattle.object_set.specs.Walks.{IsRecord}
 use Rattle.reloc_fields.specs.declared.kind.Kind.{Kind}
@@ -24,15 +22,14 @@ use Rattle.symbol_table.specs.Candidates.{stands_for}
 use Rattle.symbol_table.specs.Fields.{kind_numbered}
 use Rattle.symbol_table.specs.Records.{is_slot_kind, looks_at_symbol, records_refusal}
 use Rattle.symbol_table.specs.Targets.{plus_addend, section_target, index_target, own_target, named_target, external_target, target_of}
-use Rattle.symbol_table.specs.Text.{text_index, text_number, text_sections}
-use Rattle.symbol_table.specs.laws.Records.{IsSoundField, IsSoundRecord, records_sound}
-use Rattle.symbol_table.specs.laws.Text.{text_index_within}
-use Rattle.toc_groups.specs.Data.{base_of, section_address, slot_address, target_address}
+use Rattle.symbol_table.specs.Text.{text_sections}
+use Rattle.symbol_table.specs.laws.Records.{IsSoundField, records_sound}
+use Rattle.toc_groups.specs.Data.{base_of, slot_address}
 use Rattle.toc_groups.specs.Parts.{IsTargetOf}
-use Rattle.toc_groups.specs.Plans.{LaidData, IsPlan, address_in, slot_in}
-use Rattle.toc_groups.specs.Values.{code_address, address_of, symbol_address, section_place, field_address, source_address, record_value}
+use Rattle.toc_groups.specs.Plans.{LaidData, IsPlan, address_in}
+use Rattle.toc_groups.specs.Values.{code_address, address_of, symbol_address, field_address, source_address, record_value}
 use Rattle.toc_groups.specs.inside.Values.{IsPlacedTarget}
-use Rattle.toc_groups.proofs.Reading.{address_is, base_is, slot_is}
+use Rattle.toc_groups.proofs.Reading.{address_is}
 
 -- ---- text sections
 

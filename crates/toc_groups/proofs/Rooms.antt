@@ -1,9 +1,8 @@
 -- Sections of data, and slots, lie in the segments' bytes.
-use Rattle.std.proofs.Common.{ℕ, ◌≡◌, ◌<◌, ◌≤◌, ◌+◌, ◌*◌, ◌^◌, ◌⊎◌, inl, inr, true, List, length, Some, None, ap, sym, subst, ◌∙◌, refl, arith, if◌then◌else◌, ◌==◌, Bool, false, ◌-◌, nat_lt}
+use Rattle.std.proofs.Common.{ℕ, ◌≡◌, ◌<◌, ◌≤◌, ◌+◌, ◌^◌, inl, inr, true, List, length, Some, None, sym, subst, refl, arith, if◌then◌else◌, ◌==◌, Bool, false, ◌-◌, nat_lt}
 use Rattle.std.proofs.lemmas.Bool.Decides.{nat_tests}
 use Rattle.elf64_exec.specs.declared.memory_map.TheConstants.{IMAGE_START}
 use Rattle.elf64_records.specs.FileHeader.{e_shnum}
-use Rattle.elf64_records.specs.First.{when}
 use Rattle.elf64_records.specs.Sections.{sh_size}
 use Rattle.object_set.specs.declared.refusal.Refusal.TheVariants.{DataTooBig}
 use Rattle.object_set.specs.declared.sort.Sort.{Sort}
@@ -14,7 +13,7 @@ use Rattle.object_set.specs.Sections.{sort_of}
 use Rattle.symbol_table.specs.Sites.{is_data_sort}
 use Rattle.toc_groups.specs.Sections.{section_extent, sections_of}
 use Rattle.toc_groups.specs.Groups.{group_number, group_count}
-use Rattle.toc_groups.specs.Data.{read_only_end, writable_start, groups_end, writable_end, commons_end, data_end, address_by_sort, section_address, group_start, group_slots, data_refusal}
+use Rattle.toc_groups.specs.Data.{read_only_end, writable_start, groups_end, commons_end, data_end, address_by_sort, section_address, group_slots, data_refusal}
 use Rattle.toc_groups.specs.Parts.{slot_place}
 use Rattle.toc_groups.specs.declared.pieces.DataEnds.{DataEnds}
 use Rattle.toc_groups.specs.Plans.{data_ends}

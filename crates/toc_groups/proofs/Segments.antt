@@ -1,10 +1,10 @@
 -- The segments of data from what memory holds.
-use Rattle.std.proofs.Common.{ℕ, ◌≡◌, List, [], ◌++◌, ap, sym, subst, ◌∙◌, refl}
+use Rattle.std.proofs.Common.{ℕ, ◌≡◌, List, [], ◌++◌, ap, ◌∙◌}
 use Rattle.elf64_exec.specs.declared.layout.Segment.{Segment}
 use Rattle.elf64_exec.specs.declared.memory_map.TheConstants.{IMAGE_START, READ_ONLY, WRITABLE}
 use Rattle.toc_groups.specs.declared.pieces.DataEnds.{DataEnds}
-use Rattle.toc_groups.specs.Contents.{HoldsData, AreDataSegments, bytes_between, data_segments}
-use Rattle.toc_groups.specs.Data.{read_only_end, writable_start, writable_end, commons_end}
+use Rattle.toc_groups.specs.Contents.{HoldsData, AreDataSegments, bytes_between}
+use Rattle.toc_groups.specs.Data.{read_only_end, writable_start, writable_end}
 use Rattle.toc_groups.specs.Plans.{data_ends}
 use Rattle.toc_groups.specs.inside.Filled.{segment}
 use Rattle.toc_groups.specs.inside.Memory.{TwoParts, byte_of}

@@ -1,6 +1,6 @@
 -- What memory holds of data: the bytes of sections with their fields filled, slots, and zeros (ELFv2 ABI, 3.3 "TOC", "GOT" and "Relocation
 -- Fields"; ELF64, "Program Header").
-use Rattle.std.specs.Prelude.{◌≡◌, ℕ, ◌+◌, ◌-◌, ◌*◌, ◌<◌, ◌≤◌, true, List, [], ◌∷◌, ◌++◌, length, map, Some, None, slice_get, slice_index, nat_lt, if◌then◌else◌}
+use Rattle.std.specs.Prelude.{◌≡◌, ℕ, ◌+◌, ◌-◌, ◌<◌, true, List, [], ◌∷◌, ◌++◌, length, map, Some, None, slice_get, slice_index, nat_lt, if◌then◌else◌}
 use Rattle.std.specs.List.{range_with_len}
 use Rattle.byteorder.specs.Endian.{little_bytes}
 use Rattle.elf64_exec.specs.declared.layout.Segment.{Segment}
@@ -21,7 +21,7 @@ use Rattle.symbol_table.specs.Records.{records_refusal}
 use Rattle.symbol_table.specs.Sites.{is_data_sort}
 use Rattle.symbol_table.specs.Text.{text_sections}
 use Rattle.toc_groups.specs.declared.slots.TheConstants.{SLOT_SIZE}
-use Rattle.toc_groups.specs.Data.{read_only_end, writable_start, writable_end, commons_end, group_start, group_slots, section_address}
+use Rattle.toc_groups.specs.Data.{read_only_end, writable_start, writable_end, commons_end, group_slots, section_address}
 use Rattle.toc_groups.specs.Groups.{group_count}
 use Rattle.toc_groups.specs.Plans.{LaidData, IsPlan}
 use Rattle.toc_groups.specs.Parts.{Covers, slot_place}

@@ -1,5 +1,5 @@
 -- Memory while data is put into it, in the order of sections, then of slots, then of records.
-use Rattle.std.specs.Prelude.{◌≡◌, ℕ, ◌+◌, ◌<◌, ◌≤◌, ◌⊎◌, List, length, slice_index}
+use Rattle.std.specs.Prelude.{◌≡◌, ℕ, ◌+◌, ◌<◌, ◌⊎◌, List, slice_index}
 use Rattle.byteorder.specs.Endian.{little_bytes}
 use Rattle.elf64_records.specs.FileHeader.{e_shnum}
 use Rattle.elf64_records.specs.First.{first_from}

@@ -3,15 +3,12 @@
 use Rattle.std.proofs.Common.{ℕ, ◌≡◌, ◌<◌, List, true, false, length, ap, sym, subst, ◌∙◌, arith}
 use Rattle.std.proofs.lemmas.Bool.Decides.{nat_tests}
 use Rattle.elf64_records.specs.Sections.{section_bytes, sh_size}
-use Rattle.object_set.specs.declared.sort.Sort.{Sort}
-use Rattle.object_set.specs.declared.sort.Sort.TheVariants.{Zeroed}
 use Rattle.object_set.specs.Files.{file_at}
 use Rattle.object_set.specs.Refusals.{set_refusal}
 use Rattle.object_set.specs.Sections.{sort_of}
 use Rattle.symbol_table.specs.declared.target.Piece.TheVariants.{Section}
 use Rattle.symbol_table.specs.Sites.{is_data_sort}
 use Rattle.toc_groups.specs.declared.pieces.DataEnds.{DataEnds}
-use Rattle.toc_groups.specs.Contents.{IsStored}
 use Rattle.toc_groups.specs.Data.{section_address}
 use Rattle.toc_groups.specs.Plans.{data_ends}
 use Rattle.toc_groups.specs.inside.Memory.{HasRange, Puts, byte_of}

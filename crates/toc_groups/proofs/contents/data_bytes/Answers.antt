@@ -1,11 +1,6 @@
 -- push_segment-requires: the ends are in order. returns: the segments have what memory holds.
-use Rattle.std.proofs.Common.{ℕ, ◌≡◌, List, [], ◌++◌, ap, sym, subst, ◌∙◌, refl}
-use Rattle.elf64_exec.specs.declared.layout.Segment.{Segment}
-use Rattle.elf64_exec.specs.declared.memory_map.TheConstants.{IMAGE_START}
+use Rattle.std.proofs.Common.{ap, sym, ◌∙◌}
 use Rattle.object_set.specs.Refusals.{set_refusal}
-use Rattle.toc_groups.specs.Contents.{data_segments}
-use Rattle.toc_groups.specs.inside.Filled.{segment}
-use Rattle.toc_groups.specs.inside.Memory.{byte_of}
 use Rattle.toc_groups.proofs.Rooms.{ends_in_order}
 use Rattle.toc_groups.proofs.Segments.{segments_are}
 use Rattle.toc_groups.proofs.contents.data_bytes.Goals as goal

@@ -1,11 +1,10 @@
 -- returns: a record fills a field in data exactly if its section is data and its kind has bytes.
-use Rattle.std.proofs.Common.{◌≡◌, ◌≢◌, ◌<◌, ℕ, Some, None, List, true, false, ap, sym, ◌∙◌, arith}
+use Rattle.std.proofs.Common.{◌≡◌, ◌≢◌, ℕ, Some, List, ap, sym, ◌∙◌, arith}
 use Rattle.elf64_records.specs.Records.{rela_of}
 use Rattle.object_set.specs.Files.{file_at}
 use Rattle.object_set.specs.Sections.{sort_of}
 use Rattle.reloc_fields.specs.declared.kind.Kind.{Kind}
 use Rattle.reloc_fields.specs.Table.{line_of}
-use Rattle.symbol_table.specs.Fields.{kind_numbered}
 use Rattle.symbol_table.specs.Sites.{is_data_sort}
 use Rattle.symbol_table.proofs.KindNumbers.{kind_found, kind_number}
 use Rattle.toc_groups.proofs.contents.field_kind.Goals as goal

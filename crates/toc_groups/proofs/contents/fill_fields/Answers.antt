@@ -1,5 +1,5 @@
 -- loop-file: at the start all files are left.
-use Rattle.std.proofs.Common.{ℕ, ◌≡◌, ◌-◌, length, ap, sym, ◌∙◌, arith}
+use Rattle.std.proofs.Common.{◌≡◌, ◌-◌, length, ap, sym, ◌∙◌, arith}
 use Rattle.elf64_records.specs.First.{first_from}
 use Rattle.toc_groups.specs.inside.Filled.{file_overflow}
 use Rattle.toc_groups.proofs.OverflowWalk.{overflow_first}

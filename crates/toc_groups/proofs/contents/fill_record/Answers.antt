@@ -1,5 +1,5 @@
 -- returns: a record that fills nothing in data changes nothing; of another one the field holds its value or not.
-use Rattle.std.proofs.Common.{◌≡◌, ℕ, ℤ, Some, ap, sym, ◌∙◌, arith, to_z, of_z}
+use Rattle.std.proofs.Common.{◌≡◌, Some, ap, sym, ◌∙◌, arith, to_z, of_z}
 use Rattle.std.specs.Int.{w128}
 use Rattle.std.proofs.lemmas.Int.{ints}
 use Rattle.object_set.specs.declared.refusal.Refusal.TheVariants.{Overflow}

@@ -1,5 +1,5 @@
 -- base_of-requires: each file has a base. returns: the value is made of these numbers.
-use Rattle.std.proofs.Common.{◌≡◌, arith, ◌∙◌, sym, to_z, of_z, w64}
+use Rattle.std.proofs.Common.{◌≡◌, arith, ◌∙◌, to_z, of_z, w64}
 use Rattle.std.specs.Int.{w128}
 use Rattle.std.proofs.lemmas.Int.{ints}
 use Rattle.toc_groups.proofs.Reading.{bases_long, base_is}

@@ -1,5 +1,5 @@
 -- slot-requires: the symbol is one of the file's. returns: where its slot lies. symbol_address-requires: the symbol goes somewhere.
-use Rattle.std.proofs.Common.{ℕ, Some, None, Option, sym, ◌∙◌, subst}
+use Rattle.std.proofs.Common.{ℕ, Some, None, sym, ◌∙◌, subst}
 use Rattle.std.specs.Prelude.{IsSome, pos}
 use Rattle.symbol_table.specs.Targets.{target_of}
 use Rattle.toc_groups.proofs.Reading.{laid_symbol, slot_is}

@@ -1,5 +1,5 @@
 -- group-requires-clause-sound: each section is one of 64 bytes.
-use Rattle.std.proofs.Common.{ℕ, ◌≡◌, ◌<◌, ◌%◌, length, List, ap, sym, subst, arith, rules, refl, ◌∙◌}
+use Rattle.std.proofs.Common.{◌≡◌, length, List, ap, sym, subst, arith, rules, refl, ◌∙◌}
 use Rattle.std.specs.Prelude.{replicate}
 use Rattle.std.proofs.lemmas.List.{get_or-replicate, length-replicate}
 use Rattle.layout_rounds.specs.declared.shape.ShapeSection.{ShapeSection}
