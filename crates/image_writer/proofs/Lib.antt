@@ -1,7 +1,11 @@
 pub mod Patching
+pub mod Bases
 pub mod Callers
 pub mod Calling
 pub mod Shaping
+pub mod Sited
+pub mod Refusing
+pub mod SoundShape
 pub mod Room
 pub mod Fielding
 pub mod FieldRooms

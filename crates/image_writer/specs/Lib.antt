@@ -4,4 +4,5 @@ pub mod Calls
 pub mod Fields
 pub mod Image
 pub mod Job
+pub mod LaidText
 pub mod inside

@@ -4,11 +4,13 @@
 
 mod calls;
 mod fields;
+mod layout;
 mod ready;
 mod sections;
 mod shape;
 mod stubs;
 mod text;
 
+pub use layout::lay_text;
 pub use shape::{call_numbered, shape_of};
 pub use text::text_bytes;

@@ -1,5 +1,5 @@
 // What a layout gives to those who write its text.
-ghost use Rattle.std.specs.Prelude.{◌<◌, ℕ, slice_index};
+ghost use Rattle.std.specs.Prelude.{◌≡◌, ◌<◌, ℕ, length, slice_index};
 ghost use Rattle.image_writer.specs.Job.{IsJob};
 ghost use Rattle.image_writer.specs.inside.Ready.{HasRooms};
 
@@ -8,18 +8,20 @@ use layout_rounds::{
     Settled, branches_stay_in_reach, calls_have_keys, sections_and_stubs_lie_in_text,
 };
 use symbol_table::Resolved;
-use toc_groups::DataPlan;
+use toc_groups::{DataPlan, data_is_placed};
 
 /// In the layout of a job sections, stubs, calls and fields have room in the text, and branches reach. It does nothing when it runs.
 pub fn parts_have_room(res: &Resolved, plan: &DataPlan, sites: &[CallSite], settled: &Settled)
     requires job { IsJob res.now.files plan.now sites.now settled.now.keyed settled.now.far
         settled.now.places }
-    requires low { (file : ℕ) → slice_index plan.now.bases file < 0x60000000 }
-    ensures { HasRooms res.now.files plan.now sites.now settled.now.keyed settled.now.far settled.now.places }
+    ensures rooms { HasRooms res.now.files plan.now sites.now settled.now.keyed settled.now.far settled.now.places }
+    ensures bases { length plan.now.bases ≡ length res.now.files }
+    ensures low { (file : ℕ) → slice_index plan.now.bases file < 0x60000000 }
 {
     // none of the files is refused
     let _files = res.set().file_count();
     calls_have_keys();
     sections_and_stubs_lie_in_text();
     branches_stay_in_reach();
+    data_is_placed();
 }

@@ -85,6 +85,7 @@ pub fn shape_of(
     ensures sections { IfOk result (λ shape.
         shape.sections.items ≡ shape_sections res.now.files plan.now.groups) }
     ensures sites { IfOk result (λ shape. shape.sites.items ≡ shape_sites sites.now) }
+    ensures sound { IfOk result (λ shape. AreSound shape.sections.items) }
 {
     Ok(Shape {
         start: plan.text_start(),

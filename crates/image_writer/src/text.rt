@@ -1,5 +1,5 @@
 // The bytes of text.
-ghost use Rattle.std.specs.Prelude.{◌≡◌, ◌<◌, ◌-◌, ◌^◌, ℕ, IfOk, length, slice_index};
+ghost use Rattle.std.specs.Prelude.{◌≡◌, ◌<◌, ◌-◌, ◌^◌, IfOk, length};
 ghost use Rattle.object_set.specs.Refusals.{Answers};
 ghost use Rattle.layout_rounds.specs.FarSets.{member};
 ghost use Rattle.layout_rounds.specs.Layout.{text_end};
@@ -57,8 +57,6 @@ pub fn text_bytes(
     requires job { IsJob res.now.files plan.now sites.now settled.now.keyed settled.now.far
         settled.now.places }
     requires few { length sites.now < 2 ^ 32 }
-    requires bases { length plan.now.bases ≡ length res.now.files }
-    requires low { (file : ℕ) → slice_index plan.now.bases file < 0x60000000 }
     ensures refusal { Answers result
         (text_overflow res.now.files plan.now.span settled.now.places.sections) }
     ensures text { IfOk result (λ text. text.items ≡ text_image res.now.files plan.now sites.now
