@@ -1,5 +1,5 @@
 -- The call by which a shape is refused is one of its calls.
-use Rattle.std.proofs.Common.{ℕ, zero, suc, ◌≡◌, ◌<◌, ◌+◌, Bool, true, false, cond, Option, Some, None, List, length, ap, arith}
+use Rattle.std.proofs.Common.{ℕ, zero, suc, ◌≡◌, ◌<◌, ◌+◌, Bool, true, false, cond, Option, Some, List, length, ap, arith}
 use Rattle.std.specs.List.{find, range_with_len}
 use Rattle.layout_rounds.specs.declared.shape.Shape.{Shape}
 use Rattle.layout_rounds.specs.declared.settling.LayoutFault.TheVariants.{StubReach}

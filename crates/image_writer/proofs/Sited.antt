@@ -1,5 +1,5 @@
 -- The calls of a shape go from instructions to instructions and stand in order, as those of its job do.
-use Rattle.std.proofs.Common.{ℕ, zero, suc, ◌≡◌, ◌<◌, ◌≤◌, ◌+◌, ◌⊎◌, inl, inr, Option, Some, None, List, [], ◌∷◌, ◌++◌, length, add-one, ap, sym, ◌∙◌, subst, refl, arith}
+use Rattle.std.proofs.Common.{ℕ, zero, suc, ◌≡◌, ◌<◌, ◌≤◌, ◌+◌, inl, inr, Option, Some, None, List, [], ◌∷◌, ◌++◌, length, add-one, ap, sym, subst, refl, arith}
 use Rattle.stub_kinds.specs.declared.class.Class.{Class}
 use Rattle.layout_rounds.specs.declared.shape.ShapeSection.{ShapeSection}
 use Rattle.layout_rounds.specs.declared.shape.ShapeSite.{ShapeSite}
@@ -41,13 +41,13 @@ before_too : (a b c : CallSite) → StandsBefore a b → StandsBefore b c → St
 before_too a b c first second =
     elim first [
       | inl less ↦ elim second [
-          | inl more ↦ inl (omega (arith, less, more))
-          | inr same ↦ inl (omega (arith, less, same.0))
-        ]
+        | inl more ↦ inl (omega (arith, less, more))
+        | inr same ↦ inl (omega (arith, less, same.0))
+      ]
       | inr same ↦ elim second [
-          | inl more ↦ inl (omega (arith, same.0, more))
-          | inr too ↦ inr (omega (arith, same.0, too.0), omega (arith, same.1, too.1))
-        ]
+        | inl more ↦ inl (omega (arith, same.0, more))
+        | inr too ↦ inr (omega (arith, same.0, too.0), omega (arith, same.1, too.1))
+      ]
     ]
 
 not_after : (a b : CallSite) (c d : Class) → StandsBefore a b → IsNotAfter (site_shape a c) (site_shape b d)

@@ -1,25 +1,23 @@
 -- The shape of a job is sound.
-use Rattle.std.proofs.Common.{ℕ, ◌≡◌, ◌<◌, ◌≤◌, ◌+◌, ◌%◌, ◌^◌, None, List, length, add-one, ap, sym, ◌∙◌, subst, arith}
+use Rattle.std.proofs.Common.{ℕ, ◌≡◌, ◌<◌, ◌+◌, ◌%◌, None, List, length, add-one, ap, sym, ◌∙◌, subst, arith}
 use Rattle.std.proofs.lemmas.List.{length-map}
 use Rattle.object_set.specs.Refusals.{set_refusal}
 use Rattle.symbol_table.specs.Records.{records_refusal}
 use Rattle.symbol_table.specs.Text.{text_sections}
-use Rattle.stub_kinds.specs.declared.class.Class.{Class}
 use Rattle.toc_groups.specs.PlacedData.{IsPlacedData}
-use Rattle.toc_groups.specs.Plans.{LaidData, IsPlan}
+use Rattle.toc_groups.specs.Plans.{LaidData}
 use Rattle.layout_rounds.specs.declared.shape.Shape.{Shape}
 use Rattle.layout_rounds.specs.declared.shape.ShapeSection.{ShapeSection}
 use Rattle.layout_rounds.specs.declared.shape.ShapeSite.{ShapeSite}
 use Rattle.layout_rounds.specs.Shapes.{site_of, AreSound, IsInText, IsNotAfter, IsSound}
 use Rattle.call_sites.specs.declared.site.CallSite.{CallSite}
 use Rattle.call_sites.specs.Sites.{call_sites}
-use Rattle.call_sites.specs.laws.SiteFacts.{IsInstruction, IsSoundSite}
+use Rattle.call_sites.specs.laws.SiteFacts.{IsInstruction}
 use Rattle.call_sites.specs.laws.SiteOrder.{site_sound_at, sites_ordered_at, StandsBefore}
 use Rattle.image_writer.specs.Calls.{call_at, no_call}
 use Rattle.image_writer.specs.Job.{IsShapeOf}
-use Rattle.image_writer.specs.JobShape.{section_shape, shape_sections, shape_sites, site_shape}
+use Rattle.image_writer.specs.JobShape.{section_shape, shape_sections, shape_sites}
 use Rattle.image_writer.specs.LaidText.{HasCalls}
-use Rattle.image_writer.specs.Text.{text_section}
 use Rattle.image_writer.proofs.Shaping.{shaped}
 use Rattle.image_writer.proofs.Sited.{IsFit, IsFitCall, AreOrdered, sites_few, sites_fit, sites_ordered}
 

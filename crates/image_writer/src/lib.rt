@@ -14,3 +14,6 @@ mod text;
 pub use layout::lay_text;
 pub use shape::{call_numbered, shape_of};
 pub use text::text_bytes;
+
+#[cfg(test)]
+mod tests;

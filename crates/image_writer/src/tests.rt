@@ -1,0 +1,3 @@
+// Texts that were worked by hand.
+mod jobs;
+mod texts;
