@@ -8,7 +8,7 @@ use Rattle.object_set.specs.declared.refusal.Refusal.TheVariants.{NoRestore, Tex
 use Rattle.object_set.specs.Files.{file_at}
 use Rattle.symbol_table.specs.Text.{text_sections}
 use Rattle.call_sites.specs.declared.site.CallSite.{CallSite}
-use Rattle.call_sites.specs.declared.finding.TheConstants.{TEXT_LIMIT}
+use Rattle.ppc_bytes.specs.declared.constants.TheConstants.{TEXT_LIMIT}
 use Rattle.call_sites.specs.Sites.{call_sites}
 
 -- the bytes of all text sections together

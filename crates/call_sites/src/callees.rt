@@ -18,9 +18,10 @@ ghost use Rattle.call_sites.specs.inside.Ready.{text_bytes, bytes_of, file_of, f
 
 use crate::calls::{file_calls, linkage_of};
 use crate::class::{Callee, Linkage, changes_r2, class_of, entry_offset};
-use crate::site::{CallSite, NOP};
+use crate::site::CallSite;
 use elf64_records::Rela;
 use object_set::{SectionId, Site};
+use ppc_bytes::constants::NOP;
 use ppc_bytes::word_at;
 use std::alloc::{AllocError, Global};
 use std::marker::Model;

@@ -11,11 +11,9 @@ use crate::callees::{ready, text_section};
 use crate::list::Sites;
 use crate::site::CallSite;
 use object_set::{Refusal, SectionId};
+use ppc_bytes::constants::TEXT_LIMIT;
 use std::alloc::Global;
 use symbol_table::Resolved;
-
-/// How many bytes all text sections may have together.
-const TEXT_LIMIT: u64 = 0x2000_0000;
 
 /// Refuses more text than can be.
 fn check_text_size(res: &Resolved) -> Result<(), Refusal>

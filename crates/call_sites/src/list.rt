@@ -12,7 +12,7 @@ pub struct Sites {
 
 impl Model for Sites {
     ghost use Rattle.std.specs.Prelude.{List, ◌≤◌, length};
-    ghost use Rattle.call_sites.specs.declared.finding.TheConstants.{TEXT_LIMIT};
+    ghost use Rattle.ppc_bytes.specs.declared.constants.TheConstants.{TEXT_LIMIT};
     ghost use Rattle.call_sites.specs.declared.site.CallSite.{CallSite};
 
     ghost Value = { List CallSite };

@@ -22,7 +22,7 @@ use symbol_table::{RecordField, Resolved};
 
 /// A form of the two words.
 #[derive(Clone, Copy)]
-pub struct Form {
+pub struct PrologueForm {
     /// The high half of the first word.
     pub high_half: u32,
     /// The relocation of the first word.
@@ -34,7 +34,7 @@ pub struct Form {
 }
 
 /// `addis r2,r12` and `addi r2,r2`: the base by its distance from the entry, which r12 holds.
-const FROM_ENTRY: Form = Form {
+const FROM_ENTRY: PrologueForm = PrologueForm {
     high_half: 0x3C4C,
     high: Kind::Rel16Ha,
     low: Kind::Rel16Lo,
@@ -42,7 +42,7 @@ const FROM_ENTRY: Form = Form {
 };
 
 /// `lis r2` and `addi r2,r2`: the base by its address.
-const ABSOLUTE: Form = Form {
+const ABSOLUTE: PrologueForm = PrologueForm {
     high_half: 0x3C40,
     high: Kind::Addr16Ha,
     low: Kind::Addr16Lo,
@@ -57,7 +57,7 @@ const ADDI_R2_R2: u32 = 0x3842;
 pub struct Halves {
     pub section: u32,
     pub at: u64,
-    pub form: Form,
+    pub form: PrologueForm,
 }
 
 /// What was seen of the fields that have bytes of two words: how many there are, counted up to three, and whether those of the form's

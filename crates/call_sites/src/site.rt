@@ -5,16 +5,12 @@ ghost use Rattle.ppc_bytes.specs.Bytes.{InSigned};
 ghost use Rattle.call_sites.specs.Words.{branch_word, slot_word};
 
 use object_set::Site;
+use ppc_bytes::constants::{B, NOP};
 use ppc_bytes::low_bits;
 use stub_kinds::Class;
 
 /// ld r2,24(r1)
 const LD_R2: u32 = 0xE841_0018;
-
-pub const NOP: u32 = 0x6000_0000;
-
-/// b and bl, by 0 bytes.
-const B: u32 = 0x4800_0000;
 
 /// A branch with a record R_PPC64_REL24 or R_PPC64_REL24_NOTOC.
 #[derive(Clone, Copy, Debug, PartialEq, Eq)]

@@ -1,5 +1,6 @@
 -- A job whose text is laid out for a closed set of far keys.
 use Rattle.std.specs.Prelude.{ℕ, ◌≡◌, ◌+◌, ◌<◌, ◌≤◌, Bool, true, None, List, length}
+use Rattle.ppc_bytes.specs.declared.constants.TheConstants.{TEXT_LIMIT}
 use Rattle.symbol_table.specs.Records.{records_refusal}
 use Rattle.toc_groups.specs.Plans.{LaidData, IsPlan}
 use Rattle.toc_groups.specs.Data.{data_refusal}
@@ -10,7 +11,7 @@ use Rattle.layout_rounds.specs.FarSets.{member}
 use Rattle.layout_rounds.specs.Shapes.{KeyedText, keyed_text, IsSound, IsSpan}
 use Rattle.layout_rounds.specs.Layout.{PlacedText, key_count, text_end, IsLayout}
 use Rattle.layout_rounds.specs.Reach.{IsClosed}
-use Rattle.layout_rounds.specs.Settled.{call_reaches, text_limit}
+use Rattle.layout_rounds.specs.Settled.{call_reaches}
 use Rattle.image_writer.specs.JobShape.{shape_sections, shape_sites}
 
 -- a shape is that of files with a plan of data and these call sites
@@ -36,5 +37,5 @@ pub record IsJob (files : List (List ℕ)) (plan : LaidData) (sites : List CallS
   pub far_count : length far ≡ key_count t
   pub closed : IsClosed t shape.sites.items span (member far)
   pub laid : IsLayout t (member far) places
-  pub within : text_end t (member far) ≤ shape.start + text_limit
+  pub within : text_end t (member far) ≤ shape.start + TEXT_LIMIT
   pub reached : (i : ℕ) → i < length shape.sites.items → call_reaches t shape.sites.items (member far) span i ≡ true

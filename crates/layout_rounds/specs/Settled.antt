@@ -2,6 +2,7 @@
 use Rattle.std.specs.Prelude.{◌≡◌, ℕ, ◌+◌, ◌<◌, ◌≤◌, List, length, Bool, true, ◌&&◌, not, nat_lt, if◌then◌else◌}
 use Rattle.std.specs.Prelude.{Option, Some, None, slice_index}
 use Rattle.std.specs.List.{find, range_with_len}
+use Rattle.ppc_bytes.specs.declared.constants.TheConstants.{TEXT_LIMIT}
 use Rattle.layout_rounds.specs.declared.shape.Shape.{Shape}
 use Rattle.layout_rounds.specs.declared.shape.ShapeSite.{ShapeSite}
 use Rattle.layout_rounds.specs.declared.settling.LayoutFault.{LayoutFault}
@@ -10,10 +11,6 @@ use Rattle.layout_rounds.specs.FarSets.{member}
 use Rattle.layout_rounds.specs.Shapes.{KeyedText, keyed_text, site_of}
 use Rattle.layout_rounds.specs.Layout.{PlacedText, key_count, key_at, point_in, stub_size, address, stub_address, text_end, IsLayout}
 use Rattle.layout_rounds.specs.Reach.{reaches, IsFarSet}
-
--- how many bytes a text may have, by this linker's limit
-abbrev pub text_limit : ℕ
-text_limit = 0x20000000
 
 module _ (t : KeyedText) (sites : List ShapeSite) (F : ℕ → Bool) where
   -- the address of call i
@@ -55,19 +52,19 @@ pub record IsFarLayout (shape : Shape) (span : ℕ) (keyed : KeyedText) (far : L
 
 -- in the layout of F the text is within its limit, and each call reaches what it branches to
 pub record IsAccepted (shape : Shape) (span : ℕ) (F : ℕ → Bool) : Type 0 where
-  pub within : text_end (keyed_text shape span) F ≤ shape.start + text_limit
+  pub within : text_end (keyed_text shape span) F ≤ shape.start + TEXT_LIMIT
   pub none_out : stub_reach shape span F ≡ None
   pub reached : (i : ℕ) → i < length shape.sites.items →
       call_reaches (keyed_text shape span) shape.sites.items F span i ≡ true
 
 -- the text is within its limit, and this is the first call that doesn't reach its stub
 pub record IsOut (shape : Shape) (span : ℕ) (F : ℕ → Bool) (i : ℕ) : Type 0 where
-  pub within : text_end (keyed_text shape span) F ≤ shape.start + text_limit
+  pub within : text_end (keyed_text shape span) F ≤ shape.start + TEXT_LIMIT
   pub first : stub_reach shape span F ≡ Some i
 
 -- why a shape is refused in the layout of F
 abbrev pub IsRefusedBy : Shape → ℕ → (ℕ → Bool) → LayoutFault → Type 0
-IsRefusedBy shape span F TextTooBig = shape.start + text_limit < text_end (keyed_text shape span) F
+IsRefusedBy shape span F TextTooBig = shape.start + TEXT_LIMIT < text_end (keyed_text shape span) F
 IsRefusedBy shape span F (StubReach i) = IsOut shape span F i
 IsRefusedBy shape span F Memory = Unit {0}
 

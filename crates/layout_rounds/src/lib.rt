@@ -21,7 +21,7 @@ pub use laws::{
     sections_and_stubs_are_apart, sections_and_stubs_lie_in_text, some_far_set,
 };
 pub use placing::{Places, place};
-pub use settling::{LayoutFault, Settled, TEXT_LIMIT, settle, settle_rounds};
+pub use settling::{LayoutFault, Settled, settle, settle_rounds};
 pub use shape::{Shape, ShapeSection, ShapeSite};
 
 #[cfg(test)]

@@ -11,13 +11,11 @@ use crate::near::{reaches, ways_of};
 use crate::placing::{Places, place};
 use crate::rounds::{widen, widen_grown};
 use crate::shape::Shape;
+use ppc_bytes::constants::TEXT_LIMIT;
 use ppc_bytes::{Memory, Steps};
 use std::alloc::Global;
 use std::sync::ledger::Ledger;
 use stub_kinds::size;
-
-/// How many bytes a text may have, by this linker's limit.
-pub const TEXT_LIMIT: u64 = 0x2000_0000;
 
 /// A text with its far set, and the layout of that set.
 #[derive(Drop)]

@@ -1,4 +1,4 @@
-// The numbers to which the ELF64 object file format gives names, and the names of the table of contents.
+// The numbers to which the ELF64 object file format gives names, the names of the table of contents, and what several layers say of text.
 
 /// File types (e_type): relocatable, and shared.
 pub const ET_REL: u16 = 1;
@@ -79,3 +79,11 @@ pub const SHN_XINDEX: u16 = 0xFFFF;
 pub const TOC_BASE: &[u8] = b".TOC.";
 
 pub const TOC_SECTION: &[u8] = b".toc";
+
+/// Words of instructions: `nop`, which is `ori r0,r0,0`, and `b` by 0 bytes (Power ISA 3.1, "Branch Instructions").
+pub const NOP: u32 = 0x6000_0000;
+
+pub const B: u32 = 0x4800_0000;
+
+/// How many bytes of text an image may have, by this linker's limit.
+pub const TEXT_LIMIT: u64 = 0x2000_0000;

@@ -5,9 +5,8 @@ ghost use Rattle.ppc_bytes.specs.Halves.{low_of, lo, ha, d0, d1};
 ghost use Rattle.stub_kinds.specs.Stubs.{addi_r12_r12, addi_r2_r2, addis_r12_r2, addis_r2_r2, bctr, branch, by_distance, by_toc, eight, mtctr_r12, std_r2, words_of, BranchReaches};
 
 use crate::class::Class;
+use ppc_bytes::constants::{B, NOP};
 use ppc_bytes::{d0, d1, ha, lo, low_bits};
-
-const NOP: u32 = 0x6000_0000;
 
 const STD_R2: u32 = 0xF841_0018;
 
@@ -26,8 +25,6 @@ const PADDI_R12: u32 = 0x3980_0000;
 const MTCTR_R12: u32 = 0x7D89_03A6;
 
 const BCTR: u32 = 0x4E80_0420;
-
-const B: u32 = 0x4800_0000;
 
 /// The words of a stub, with nops behind them: `at` is the stub's address, `to` that of the key's place, `base` the TOC base
 /// of the caller and `to_base` that of the callee. A near `Same` or `NearN` key has no stub, so its words are nops.

@@ -11,7 +11,7 @@ use std::alloc::{AllocError, Global};
 use std::marker::Model;
 
 /// How many text sections can be numbered. 4096 files have far fewer.
-const TEXT_LIMIT: usize = 0xFFFF_FFFF;
+const MOST_SECTIONS: usize = 0xFFFF_FFFF;
 
 /// How many text sections stand before each section of a file. Contracts see the list of these.
 #[derive(Drop)]
@@ -69,7 +69,7 @@ fn push_file(
 {
     let mut items = Vec::new(alloc);
     for section in 0..set.view(file).section_count() {
-        if texts.len() > TEXT_LIMIT {
+        if texts.len() > MOST_SECTIONS {
             return Err(AllocError);
         }
         items.push(texts.len() as u32)?;
@@ -108,7 +108,7 @@ impl<'a, 'b> TextSections<'a, 'b> {
             let row = push_file(alloc, &mut items, set, file)?;
             indexes.push(row)?;
         }
-        if items.len() > TEXT_LIMIT {
+        if items.len() > MOST_SECTIONS {
             return Err(AllocError);
         }
         Ok(TextSections {

@@ -1,12 +1,13 @@
 -- The words on which the records of TOC loads stand, and what a rewriting makes of them (ELFv2 ABI, 3.3 "TOC" and "Relocation
 -- Notations"; Power ISA 3.1, book I, "Instruction Formats": D and DS).
 use Rattle.std.specs.Prelude.{◌≡◌, ℕ, ℤ, pos, neg_ℤ, int_lt, ◌+◌, ◌*◌, ◌/◌, ◌%◌, ◌^◌, Bool, true, false, not, ◌&&◌, ◌||◌, ◌==◌, if◌then◌else◌}
+use Rattle.ppc_bytes.specs.declared.constants.TheConstants.{NOP}
 use Rattle.ppc_bytes.specs.Halves.{lo, ha}
 use Rattle.reloc_fields.specs.declared.kind.Kind.{Kind}
 use Rattle.reloc_fields.specs.declared.kind.Kind.TheVariants.{Toc16Ha, Toc16Lo, Toc16LoDs, Toc16Ds}
 use Rattle.reloc_fields.specs.Table.{line_of, Passes}
 use Rattle.symbol_table.specs.Sites.{primary_opcode}
-use Rattle.toc_rewrite.specs.declared.words.TheConstants.{TOC_REGISTER, NOP, ADDI, ADDIS, LD_FORMS, STD_FORMS}
+use Rattle.toc_rewrite.specs.declared.words.TheConstants.{TOC_REGISTER, ADDI, ADDIS, LD_FORMS, STD_FORMS}
 
 -- the register that a word writes or stores, and the one to which it adds its displacement
 abbrev pub target_register : ℕ → ℕ

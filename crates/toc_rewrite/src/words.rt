@@ -3,14 +3,12 @@ ghost use Rattle.std.specs.Prelude.{◌≡◌, ◌<◌, ◌^◌};
 ghost use Rattle.symbol_table.specs.Sites.{primary_opcode};
 ghost use Rattle.toc_rewrite.specs.Words.{target_register, base_register, is_ld, is_lwa, is_std, can_hold_high, has_displacement, suits, only_loads, is_small, word_of, rewritten_base, folded_load, with_low, with_low_ds, with_high, folded_word, IsRewritten};
 
+use ppc_bytes::constants::NOP;
 use ppc_bytes::{ha, lo};
 use reloc_fields::Kind;
 
 /// r2, which holds the TOC base.
 pub const TOC_REGISTER: u32 = 2;
-
-/// `nop`: `ori r0,r0,0`.
-pub const NOP: u32 = 0x6000_0000;
 
 /// The primary opcodes of `addi` and `addis`, and those of `ld`, `lwa` and of `std`.
 pub const ADDI: u32 = 14;

@@ -6,12 +6,12 @@ use Rattle.symbol_table.specs.declared.prologue.FormFacts.{FormFacts}
 use Rattle.call_sites.specs.declared.prologue.TheConstants.{ADDI_R2_R2}
 use Rattle.symbol_table.specs.Fields.{meets, fields_meeting}
 use Rattle.symbol_table.specs.Prologue.{is_half, are_halves, word_in}
-use Rattle.call_sites.specs.declared.prologue.Form.{Form}
+use Rattle.call_sites.specs.declared.prologue.PrologueForm.{PrologueForm}
 use Rattle.call_sites.specs.declared.prologue.Halves.{Halves}
 use Rattle.call_sites.specs.declared.prologue.Seen.{Seen}
 
 -- a form as it is defined
-abbrev pub facts_in : Form → FormFacts
+abbrev pub facts_in : PrologueForm → FormFacts
 facts_in form = record { high_half = form.high_half; high = form.high; low = form.low; low_addend = form.low_addend }
 
 -- two words are a prologue of a form

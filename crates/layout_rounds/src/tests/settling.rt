@@ -6,10 +6,11 @@ ghost use Rattle.layout_rounds.specs.Settled.{IsFarLayout};
 
 use super::{FIVE, far_set, shape_of, sound, text_of};
 use crate::{
-    FarSet, Keyed, LayoutFault, Places, Settled, Shape, ShapeSection, ShapeSite, TEXT_LIMIT, group,
-    place, settle, settle_rounds,
+    FarSet, Keyed, LayoutFault, Places, Settled, Shape, ShapeSection, ShapeSite, group, place,
+    settle, settle_rounds,
 };
 use ppc_bytes::Steps;
+use ppc_bytes::constants::TEXT_LIMIT;
 use std::alloc::Global;
 use std::marker::Brand;
 use std::sync::ledger::{Blank, Ledger};

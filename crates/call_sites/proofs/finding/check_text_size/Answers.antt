@@ -6,7 +6,7 @@ use Rattle.elf64_records.specs.Sections.{sh_size}
 use Rattle.object_set.specs.Files.{file_at}
 use Rattle.object_set.specs.declared.refusal.Refusal.TheVariants.{TextTooBig}
 use Rattle.symbol_table.specs.Text.{text_sections}
-use Rattle.call_sites.specs.declared.finding.TheConstants.{TEXT_LIMIT}
+use Rattle.ppc_bytes.specs.declared.constants.TheConstants.{TEXT_LIMIT}
 use Rattle.call_sites.specs.Sites.{no_section, text_section}
 use Rattle.call_sites.specs.Refusals.{section_size, text_size}
 use Rattle.call_sites.proofs.finding.check_text_size.Goals as goal

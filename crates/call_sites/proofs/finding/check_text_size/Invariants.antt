@@ -1,7 +1,7 @@
 use Rattle.std.proofs.Common.{◌≡◌, ◌≤◌, take}
 use Rattle.std.specs.List.{sum_by}
 use Rattle.symbol_table.specs.Text.{text_sections}
-use Rattle.call_sites.specs.declared.finding.TheConstants.{TEXT_LIMIT}
+use Rattle.ppc_bytes.specs.declared.constants.TheConstants.{TEXT_LIMIT}
 use Rattle.call_sites.specs.Refusals.{section_size}
 use Rattle.call_sites.proofs.finding.check_text_size.Given as goal
 

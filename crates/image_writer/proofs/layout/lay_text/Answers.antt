@@ -1,8 +1,9 @@
 use Rattle.std.proofs.Common.{ℕ, ◌≡◌, ◌+◌, ◌<◌, ◌≤◌, true, length, sym, subst, arith}
+use Rattle.ppc_bytes.specs.declared.constants.TheConstants.{TEXT_LIMIT}
 use Rattle.layout_rounds.specs.FarSets.{member}
 use Rattle.layout_rounds.specs.Layout.{text_end}
 use Rattle.layout_rounds.specs.Reach.{IsClosed}
-use Rattle.layout_rounds.specs.Settled.{call_reaches, text_limit, IsRefused}
+use Rattle.layout_rounds.specs.Settled.{call_reaches, IsRefused}
 use Rattle.image_writer.specs.Calls.{no_call}
 use Rattle.image_writer.proofs.Refusing.{call_within}
 use Rattle.image_writer.proofs.layout.lay_text.Goals as goal
@@ -26,7 +27,7 @@ returns-in-Ok-settle-clause-job g c =
       far_count = laid.far_count;
       closed = subst (λ t. IsClosed t c.in-Ok.shape.sites.items c.args.span (member c.in-Ok-settle.settled.far)) (sym laid.keyed_is) laid.far_is.closed;
       laid = laid.places_are;
-      within = subst (λ t. text_end t (member c.in-Ok-settle.settled.far) ≤ c.in-Ok.shape.start + text_limit) (sym laid.keyed_is) accepted.within;
+      within = subst (λ t. text_end t (member c.in-Ok-settle.settled.far) ≤ c.in-Ok.shape.start + TEXT_LIMIT) (sym laid.keyed_is) accepted.within;
       reached = subst (λ t. (i : ℕ) → i < length c.in-Ok.shape.sites.items →
           call_reaches t c.in-Ok.shape.sites.items (member c.in-Ok-settle.settled.far) c.args.span i ≡ true) (sym laid.keyed_is) accepted.reached;
     }
