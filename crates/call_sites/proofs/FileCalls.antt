@@ -44,4 +44,5 @@ module _ (files : List (List ℕ)) (file : ℕ) (calls : List RecordField) (whol
       calls_placed file (file_at files file) calls ordered placed (λ i within text. text_small files file i whole file_in within text)
 
   pub sorted_are : All (IsCall files) calls
-  sorted_are = All-permutation (IsCall files) (unsorted_calls file (file_at files file)) calls ordered.same (unsorted_are files file file_in)
+  sorted_are = All-permutation (IsCall files) (unsorted_calls file (file_at files file)) calls ordered.same
+      (unsorted_are files file file_in)

@@ -11,4 +11,5 @@ as_many files kept are = ap (λ (l : List FileOf). length l) are ∙ length-map-
 pub kept_at : (files : List (List ℕ)) (kept : List FileOf) (k : ℕ) (d : FileOf) → kept ≡ files_of files → k < length files →
     slice_index_or kept k d ≡ file_of files k
 kept_at files kept k d are within =
-    ap (λ (l : List FileOf). slice_index_or l k d) are ∙ get_or-map-range_with_len (file_of files) 0 (length files) k k d within (omega arith)
+    ap (λ (l : List FileOf). slice_index_or l k d) are ∙ get_or-map-range_with_len (file_of files) 0 (length files) k k d within
+    (omega arith)

@@ -13,7 +13,7 @@ use Rattle.symbol_table.specs.Fields.{field_of, fields_of, fields_meeting}
 use Rattle.symbol_table.specs.Prologue.{are_halves}
 use Rattle.call_sites.specs.declared.prologue.Halves.{Halves}
 use Rattle.call_sites.specs.declared.prologue.Seen.{Seen}
-use Rattle.call_sites.specs.inside.Halves.{facts_in, is_met, is_high, is_low, seen_of, with_field, SeesMore}
+use Rattle.call_sites.specs.inside.Halves.{is_met, is_high, is_low, seen_of, with_field, SeesMore}
 
 abbrev seen : ℕ → Bool → Bool → Seen
 seen count high low = record { count = count; high = high; low = low }
@@ -34,9 +34,11 @@ module _ (b : List ℕ) (h : Halves) where
       filter-append (is_met b h) fields (f ∷ []) ∙ ap (λ (t : Bool). met ++ cond t (f ∷ []) []) is in
       let all = met ++ f ∷ [] in
       ap (λ (l : List RecordField). seen (min (length l) 3) (list_any (is_high b h) l) (list_any (is_low b h) l)) more
-      ∙ ap (λ (n : ℕ). seen n (list_any (is_high b h) all) (list_any (is_low b h) all)) (count_more (length met) (length all) (length_push met f))
+      ∙ ap (λ (n : ℕ). seen n (list_any (is_high b h) all) (list_any (is_low b h) all))
+      (count_more (length met) (length all) (length_push met f))
       ∙ ap (λ (t : Bool). seen (min (min (length met) 3 + 1) 3) t (list_any (is_low b h) all)) (any_more (is_high b h) met f)
-      ∙ ap (λ (t : Bool). seen (min (min (length met) 3 + 1) 3) (list_any (is_high b h) met || is_high b h f) t) (any_more (is_low b h) met f)
+      ∙ ap (λ (t : Bool). seen (min (min (length met) 3 + 1) 3) (list_any (is_high b h) met || is_high b h f) t)
+      (any_more (is_low b h) met f)
   one_case fields f false is =
       let met = filter (is_met b h) fields in
       let more : filter (is_met b h) (fields ++ f ∷ []) ≡ met =
@@ -82,7 +84,7 @@ module _ (b : List ℕ) (h : Halves) where
 
   -- the halves are there
   pub halves_seen : (file : ℕ) (all : Seen) → all ≡ seen_of b h (fields_of file b) →
-      (eqb all.count 2 && all.high && all.low) ≡ are_halves b (facts_in h.form) h.at (fields_meeting file b h.section h.at 8)
+      (eqb all.count 2 && all.high && all.low) ≡ are_halves b h.form h.at (fields_meeting file b h.section h.at 8)
   halves_seen file all is =
       let met = filter (is_met b h) (fields_of file b) in
       ap (λ (s : Seen). eqb s.count 2 && s.high && s.low) is

@@ -1,5 +1,5 @@
--- The calls of a link: where each stands, how it comes to its callee, and where r2 can be restored behind it (ELFv2 ABI, "Function Call" and
--- "Relocation Types Table": R_PPC64_REL24 and R_PPC64_REL24_NOTOC).
+-- The calls of a link: where each stands, how it comes to its callee, and where r2 can be restored behind it (ELFv2 ABI, "Function
+-- Call" and "Relocation Types Table": R_PPC64_REL24 and R_PPC64_REL24_NOTOC).
 use Rattle.std.specs.Prelude.{ℕ, pos, ◌+◌, ◌%◌, Bool, List, [], not, ◌&&◌, ◌==◌, nat_le, filter, map, Option, None, Some, is_some}
 use Rattle.std.specs.Prelude.{false, unwrap_or, slice_index, if◌then◌else◌}
 use Rattle.std.specs.List.{flat_map, list_any, range_with_len, slice_index_or}

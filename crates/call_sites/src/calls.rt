@@ -14,17 +14,10 @@ ghost use Rattle.call_sites.specs.inside.Calls.{unsorted_calls, file_calls, IsCa
 
 use crate::class::Linkage;
 use object_set::{ObjectSet, RecordId};
-use reloc_fields::{Kind, kind_of};
+use reloc_fields::Kind;
 use std::alloc::{AllocError, Global};
 use std::cmp::Ordering;
-use symbol_table::{FilePlace, RecordField};
-
-/// The kind of a relocation with this number.
-fn kind_numbered(number: u32) -> Option<Kind>
-    ensures { result ≡ kind_numbered number }
-{
-    kind_of(number)
-}
+use symbol_table::{FilePlace, RecordField, kind_numbered};
 
 /// How a call of a relocation with this number is linked, if it is one.
 pub fn linkage_of(number: u32) -> Option<Linkage>

@@ -9,7 +9,8 @@ ghost use Rattle.call_sites.specs.Refusals.{restore_refusal};
 ghost use Rattle.call_sites.specs.laws.SiteFacts.{IsSoundSite};
 ghost use Rattle.call_sites.specs.laws.SiteOrder.{StandsBefore};
 
-/// Each site stands on a branch in text and goes to an instruction, or to nothing; a restore slot is a nop of its section that nothing fills.
+/// Each site stands on a branch in text and goes to an instruction, or to nothing; a restore slot is a nop of its section that nothing
+/// fills.
 pub fn sites_are_sound()
     ensures { (files : List (List ℕ)) (groups : List ℕ) (k : ℕ) (site : CallSite) →
         set_refusal files ≡ None → records_refusal files ≡ None →

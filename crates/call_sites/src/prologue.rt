@@ -1,15 +1,13 @@
 // Whether one place has a recognised prologue. It is asked without any table, by looking through the symbols and the records of the file.
-ghost use Rattle.std.specs.Prelude.{◌≡◌, ◌<◌, ◌≤◌, ◌+◌, ◌^◌, ◌==◌, length, map};
-ghost use Rattle.std.specs.Ordering.{int_eq};
+ghost use Rattle.std.specs.Prelude.{◌≡◌, ◌<◌, ◌≤◌, ◌+◌, ◌^◌, length, map};
 ghost use Rattle.elf64_records.specs.FileHeader.{e_shnum};
 ghost use Rattle.elf64_records.specs.Records.{record_count};
 ghost use Rattle.elf64_records.specs.Sections.{section_bytes};
 ghost use Rattle.elf64_records.specs.Symbols.{symbol_count};
 ghost use Rattle.object_set.specs.Files.{file_at};
 ghost use Rattle.object_set.specs.Walks.{IsRecord, records_in};
-ghost use Rattle.reloc_fields.specs.Table.{line_of};
-ghost use Rattle.symbol_table.specs.Fields.{field_of, fields_of, meets};
-ghost use Rattle.symbol_table.specs.Prologue.{stands_at, has_two_entries, is_half};
+ghost use Rattle.symbol_table.specs.Fields.{field_of, fields_of};
+ghost use Rattle.symbol_table.specs.Prologue.{stands_at, has_some_form, has_two_entries};
 ghost use Rattle.symbol_table.specs.Text.{text_sections};
 ghost use Rattle.call_sites.specs.Sites.{is_recognised};
 ghost use Rattle.call_sites.specs.inside.Halves.{seen_of, with_field, is_form, SeesMore};
@@ -17,47 +15,14 @@ ghost use Rattle.call_sites.specs.inside.Halves.{seen_of, with_field, is_form, S
 use crate::callees::text_section;
 use object_set::{ObjectSet, RecordId, SectionId};
 use ppc_bytes::word_at;
-use reloc_fields::{Kind, kind_of};
-use symbol_table::{RecordField, Resolved};
-
-/// A form of the two words.
-#[derive(Clone, Copy)]
-pub struct PrologueForm {
-    /// The high half of the first word.
-    pub high_half: u32,
-    /// The relocation of the first word.
-    pub high: Kind,
-    /// That of the second word.
-    pub low: Kind,
-    /// The addend there.
-    pub low_addend: i64,
-}
-
-/// `addis r2,r12` and `addi r2,r2`: the base by its distance from the entry, which r12 holds.
-const FROM_ENTRY: PrologueForm = PrologueForm {
-    high_half: 0x3C4C,
-    high: Kind::Rel16Ha,
-    low: Kind::Rel16Lo,
-    low_addend: 4,
-};
-
-/// `lis r2` and `addi r2,r2`: the base by its address.
-const ABSOLUTE: PrologueForm = PrologueForm {
-    high_half: 0x3C40,
-    high: Kind::Addr16Ha,
-    low: Kind::Addr16Lo,
-    low_addend: 0,
-};
-
-/// The high half of the second word, `addi r2,r2`.
-const ADDI_R2_R2: u32 = 0x3842;
+use symbol_table::{FormFacts, LOW_HIGH_HALF, PrologueForm, RecordField, Resolved, is_half};
 
 /// Two words at an offset of a section, and a form that they may have.
 #[derive(Clone, Copy)]
 pub struct Halves {
     pub section: u32,
     pub at: u64,
-    pub form: PrologueForm,
+    pub form: FormFacts,
 }
 
 /// What was seen of the fields that have bytes of two words: how many there are, counted up to three, and whether those of the form's
@@ -95,46 +60,6 @@ fn has_two_entries(set: &ObjectSet, file: u32, section: u32, at: u64) -> bool
     false
 }
 
-/// Whether a relocation's number is that of a kind.
-fn is_of_kind(number: u32, kind: Kind) -> bool
-    ensures { result ≡ (number == (line_of kind).number) }
-{
-    kind_of(number) == Some(kind)
-}
-
-/// Whether two addends are the same.
-fn is_same(addend: i64, other: i64) -> bool
-    ensures { result ≡ int_eq addend other }
-{
-    addend == other
-}
-
-/// Whether a record fills a word at an offset, and is of a kind, against `.TOC.`, with an addend.
-fn is_half(set: &ObjectSet, id: RecordId, kind: Kind, addend: i64, at: u64) -> bool
-    requires { IsRecord set.now id }
-    ensures { let b = file_at set.now id.file in
-        result ≡ is_half b kind addend at (field_of b id) }
-{
-    let rela = set.view(id.file).rela(id.table, id.entry);
-    is_of_kind(rela.kind, kind)
-        && set.is_toc_base(id.file, rela.symbol)
-        && is_same(rela.addend, addend)
-        && rela.offset == at
-}
-
-/// Whether a field has bytes among so many of a section from an offset on.
-fn meets(field: RecordField, section: u32, from: u64, count: u32) -> bool
-    ensures { result ≡ meets section from count field }
-{
-    if field.id.section != section {
-        false
-    } else if field.start <= from {
-        from - field.start < u64::from(field.width) && 0 < count
-    } else {
-        field.start - from < u64::from(count) && 0 < field.width
-    }
-}
-
 /// What is seen with the field of one record more.
 fn with_record(seen: Seen, set: &ObjectSet, halves: Halves, id: RecordId) -> Seen
     requires record { IsRecord set.now id }
@@ -143,13 +68,14 @@ fn with_record(seen: Seen, set: &ObjectSet, halves: Halves, id: RecordId) -> See
         result ≡ with_field b halves seen (field_of b id) }
 {
     let Halves { section, at, form } = halves;
-    if !meets(RecordField::of_record(set, id), section, at, 8) {
+    let field = RecordField::of_record(set, id);
+    if !field.meets(section, at, 8) {
         return seen;
     }
     Seen {
         count: if seen.count < 3 { seen.count + 1 } else { 3 },
-        high: seen.high || is_half(set, id, form.high, 0, at),
-        low: seen.low || is_half(set, id, form.low, form.low_addend, at + 4),
+        high: seen.high || is_half(set, field, form.high, 0, at),
+        low: seen.low || is_half(set, field, form.low, form.low_addend, at + 4),
     }
 }
 
@@ -204,12 +130,31 @@ fn is_form(set: &ObjectSet, halves: Halves, file: u32, bytes: &[u8]) -> bool
 {
     let at = halves.at as usize;
     if word_at(bytes, at) >> 16 != halves.form.high_half
-        || word_at(bytes, at + 4) >> 16 != ADDI_R2_R2
+        || word_at(bytes, at + 4) >> 16 != LOW_HIGH_HALF
     {
         return false;
     }
     let seen = seen_of(set, halves, file);
     seen.count == 2 && seen.high && seen.low
+}
+
+/// Whether the two words at an offset of a section are a prologue of one of the forms.
+fn is_some_form(set: &ObjectSet, file: u32, section: u32, at: u64, bytes: &[u8]) -> bool
+    requires file { file < length set.now }
+    requires bytes { bytes.now ≡ section_bytes (file_at set.now file) section }
+    requires within { at + 8 ≤ length bytes.now }
+    ensures { result ≡ has_some_form file (file_at set.now file) section at }
+{
+    let from_entry = Halves {
+        section,
+        at,
+        form: PrologueForm::FromEntry.facts(),
+    };
+    let absolute = Halves {
+        form: PrologueForm::Absolute.facts(),
+        ..from_entry
+    };
+    is_form(set, from_entry, file, bytes) || is_form(set, absolute, file, bytes)
 }
 
 /// Whether a place of text has a recognised prologue (ELFv2 ABI, "TOC Pointer Usage"), by which a function with two entry points makes its
@@ -227,15 +172,5 @@ pub fn prologue_of(res: &Resolved, section: u32, offset: u64) -> bool
         return false;
     }
     let bytes = set.view(file).section(own).bytes;
-    let from_entry = Halves {
-        section: own,
-        at: offset,
-        form: FROM_ENTRY,
-    };
-    let absolute = Halves {
-        section: own,
-        at: offset,
-        form: ABSOLUTE,
-    };
-    is_form(set, from_entry, file, bytes) || is_form(set, absolute, file, bytes)
+    is_some_form(set, file, own, offset, bytes)
 }

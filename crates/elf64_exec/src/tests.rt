@@ -27,7 +27,12 @@ fn segment(
     bytes: &[u8],
     size: u64,
 ) -> Result<Segment, Memory>
-    ensures { IfOk result (λ s. s ≡ record { flags = flags; address = address; bytes = bytes.now; size = size }) }
+    ensures { IfOk result (λ s. s ≡ record {
+      flags = flags;
+      address = address;
+      bytes = bytes.now;
+      size = size;
+    }) }
 {
     let bytes = Bytes::of(Vec::from_slice(alloc, bytes)?);
     Ok(Segment {

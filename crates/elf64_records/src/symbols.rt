@@ -188,7 +188,6 @@ impl<'a> Symbols<'a> {
     }
 
     /// The entry of symbol `j` of the file.
-    #[tactic(auto, unfolding(crate::specs::Symbols::st_info, crate::specs::Symbols::st_other, crate::specs::Symbols::st_shndx, crate::specs::Symbols::st_value, crate::specs::Symbols::st_size))]
     pub fn entry(&self, j: u32) -> SymbolEntry
         requires { j < self.now.count }
         ensures info { result.info ≡ (symbol_of self.now.sections.headers.bytes.now j).info }

@@ -157,7 +157,6 @@ impl<'a> ObjectView<'a> {
     }
 
     /// Record `k` of section `i`.
-    #[tactic(auto, using(crate::specs::laws::Whole::symbol_in_range), unfolding(crate::specs::Records::r_offset, crate::specs::Records::r_info, crate::specs::Records::r_type, crate::specs::Records::r_symbol, crate::specs::Records::r_addend))]
     pub fn rela(&self, i: u32, k: u32) -> Rela
         requires section { i < e_shnum self.now }
         requires record { k < record_count self.now i }

@@ -1,5 +1,6 @@
 // The bytes of headers and entries.
-ghost use Rattle.std.specs.Prelude.{◌≡◌, ◌++◌, OnOk, IfOk};
+ghost use Rattle.std.specs.Prelude.{◌≡◌, ◌++◌, ◌∷◌, [], OnOk, IfOk, vec_len};
+ghost use Rattle.std.specs.Option.{unwrap_or};
 
 use crate::header::FileHeader;
 use crate::section::{Record, Stated, Symbol};
@@ -34,7 +35,19 @@ impl Header {
     };
 
     /// The header with what is stated otherwise.
-    pub(crate) fn with(self, stated: &Stated) -> Header {
+    pub(crate) fn with(self, stated: &Stated) -> Header
+        ensures { result ≡ record {
+          name = unwrap_or stated.now.name self.name;
+          kind = unwrap_or stated.now.kind self.kind;
+          flags = unwrap_or stated.now.flags self.flags;
+          offset = unwrap_or stated.now.offset self.offset;
+          size = unwrap_or stated.now.size self.size;
+          link = unwrap_or stated.now.link self.link;
+          info = unwrap_or stated.now.info self.info;
+          align = unwrap_or stated.now.align self.align;
+          entry_size = unwrap_or stated.now.entry_size self.entry_size;
+        } }
+    {
         Header {
             name: stated.name.unwrap_or(self.name),
             kind: stated.kind.unwrap_or(self.kind),
@@ -77,12 +90,12 @@ pub(crate) fn symbol_bytes(symbol: &Symbol, name: u32) -> [u8; 24] {
 }
 
 /// The 24 bytes of a record (ELF64, "Relocation").
-pub(crate) fn record_bytes(record: &Record) -> [u8; 24] {
+pub(crate) fn record_bytes(rela: &Record) -> [u8; 24] {
     let mut bytes = [0; 24];
-    put_long(&mut bytes, 0, record.offset);
-    put_word(&mut bytes, 8, record.kind);
-    put_word(&mut bytes, 12, record.symbol);
-    put_long(&mut bytes, 16, record.addend.cast_unsigned());
+    put_long(&mut bytes, 0, rela.offset);
+    put_word(&mut bytes, 8, rela.kind);
+    put_word(&mut bytes, 12, rela.symbol);
+    put_long(&mut bytes, 16, rela.addend.cast_unsigned());
     bytes
 }
 
@@ -123,7 +136,10 @@ pub fn append(to: &mut Vec<u8>, bytes: &[u8]) -> Result<(), Memory>
 }
 
 /// Puts a name and its zero byte behind others, and says where it begins.
-pub(crate) fn append_name(names: &mut Vec<u8>, name: &[u8]) -> Result<u32, Memory> {
+pub(crate) fn append_name(names: &mut Vec<u8>, name: &[u8]) -> Result<u32, Memory>
+    ensures place { IfOk result (λ at. at ≡ vec_len names.old) }
+    ensures name { OnOk result (names.new.items ≡ names.old.items ++ name.now ++ 0 ∷ []) }
+{
     let at = word_of(names.len())?;
     append(names, name)?;
     append(names, &[0])?;

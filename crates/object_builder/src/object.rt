@@ -1,5 +1,5 @@
 // An object file.
-ghost use Rattle.std.specs.Prelude.{◌≤◌, IfOk, vec_len};
+ghost use Rattle.std.specs.Prelude.{◌≡◌, ◌≤◌, IfOk, vec_len};
 
 use crate::encoding::{
     Header, append, append_name, file_header_bytes, half_of, record_bytes, symbol_bytes, word_of,
@@ -153,6 +153,23 @@ impl<'a> Object<'a> {
         symbol_names: Stated::TRUE,
         section_names: Stated::TRUE,
     };
+
+    /// An object of these sections and symbols, of which every header says the truth.
+    pub fn of_parts(sections: &'a [Section<'a>], symbols: &'a [Symbol<'a>]) -> Object<'a>
+        ensures sections { result.sections ≡ sections.entry }
+        ensures symbols { result.symbols ≡ symbols.entry }
+    {
+        Object {
+            header: FileHeader::OBJECT,
+            sections,
+            null_symbol: Symbol::NULL,
+            symbols,
+            null_section: Stated::TRUE,
+            symbol_table: Stated::TRUE,
+            symbol_names: Stated::TRUE,
+            section_names: Stated::TRUE,
+        }
+    }
 
     /// The number of the symbol table.
     fn table(&self) -> Result<u32, Memory> {

@@ -83,7 +83,8 @@ impl Machine {
     fn write(&mut self, world: &mut World) -> StepOutcome
         requires { self.old.ended ≡ None }
         ensures performs { let r = run_of self.old world.old in
-            Performs (writes numbers (machine_may self.old) r) r (run_of self.new world.new) result }
+            Performs (writes numbers (machine_may self.old) r) r (run_of self.new world.new)
+            result }
         ensures ranges { machine_ranges self.new ≡ machine_ranges self.old }
     {
         let address = self.core.registers[4];

@@ -53,7 +53,8 @@ pub fn events_only_grow()
 /// So many steps, of which none leaves, are a run of so many steps, and such a run is so many steps.
 pub fn steps_are_runs()
     ensures steps { (ranges : List Range) (n : ℕ) (r u : NumberRun) →
-        Reaches (IsStep ranges) n r (begun u u.ended) → ManySteps (Continues (IsStep ranges)) n r u }
+        Reaches (IsStep ranges) n r (begun u u.ended) →
+        ManySteps (Continues (IsStep ranges)) n r u }
     ensures runs { (ranges : List Range) (n : ℕ) (r u : NumberRun) →
         ManySteps (Continues (IsStep ranges)) n r u →
         Reaches (IsStep ranges) n r (begun u u.ended) }

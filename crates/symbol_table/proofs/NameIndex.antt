@@ -1,5 +1,5 @@
 -- How a name finds its number.
-use Rattle.std.proofs.Common.{◌≡◌, ◌≢◌, ◌<◌, ◌≤◌, ℕ, zero, suc, ◌+◌, ◌⊎◌, inl, inr, Bool, true, false, List, [], ◌∷◌, ◌++◌, length, Option, Some, None, slice_get}
+use Rattle.std.proofs.Common.{◌≡◌, ◌≢◌, ◌<◌, ◌≤◌, ℕ, zero, suc, ◌+◌, ◌⊎◌, inl, inr, Bool, true, false, List, [], ◌∷◌, ◌++◌, length, Option, Some, slice_get}
 use Rattle.std.proofs.Common.{slice_set, get_or, sym, ap, ◌∙◌, refl, subst, arith, Bor, cond, if◌then◌else◌, get_or-set_other, get_or-set_same, below_more}
 use Rattle.std.specs.List.{list_any}
 use Rattle.std.specs.Option.{option_map}
@@ -19,7 +19,8 @@ use Rattle.symbol_table.proofs.Distinct.{here, bytes_same, same_bytes}
 
 -- ---- lists of names
 
-pub get_named : (keys : List (Bor (List ℕ))) (k : ℕ) → slice_get (named keys) k ≡ option_map (λ (q : Bor (List ℕ)). q.now) (slice_get keys k)
+pub get_named : (keys : List (Bor (List ℕ))) (k : ℕ) → slice_get (named keys) k ≡
+    option_map (λ (q : Bor (List ℕ)). q.now) (slice_get keys k)
 get_named keys k = slice_get-map (λ (q : Bor (List ℕ)). q.now) keys k
 
 pub named_append : (xs ys : List (Bor (List ℕ))) → named (xs ++ ys) ≡ named xs ++ named ys

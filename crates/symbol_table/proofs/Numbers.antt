@@ -1,5 +1,5 @@
 -- The numbers of names.
-use Rattle.std.proofs.Common.{◌≡◌, ◌<◌, ℕ, ◌+◌, zero, suc, Bool, true, false, if◌then◌else◌, List, [], ◌∷◌, ◌++◌, Some, slice_get, sym}
+use Rattle.std.proofs.Common.{◌≡◌, ℕ, ◌+◌, zero, suc, Bool, true, false, if◌then◌else◌, List, [], ◌∷◌, ◌++◌, Some, slice_get, sym}
 use Rattle.std.proofs.Common.{ap, ◌∙◌, add-one, subst}
 use Rattle.std.specs.List.{slice_index_or}
 use Rattle.std.proofs.Common.{cond, refl}

@@ -1,5 +1,5 @@
 -- Lists in order of numbers.
-use Rattle.std.proofs.Common.{◌≡◌, ◌<◌, ◌≤◌, ℕ, Bool, true, false, ltb, List, length, arith}
+use Rattle.std.proofs.Common.{◌≡◌, ◌<◌, ◌≤◌, ℕ, Bool, true, false, ltb, List, length, sym, subst, arith}
 use Rattle.std.specs.List.{slice_index_or}
 use Rattle.std.specs.Fn.{Called, ComputesKey}
 use Rattle.std.specs.List.Sorted.{IsNonDecreasingBy, IsPartitionedBy, IsPartitionPoint}
@@ -19,6 +19,14 @@ module _ {X : Type 0} (n : X → ℕ) (t : ℕ) where
       ((a : Bor X × Unit {0}) (r : Bool) (f' : F) → Called g f a r f' → (r ≡ ltb (n a.0.now) t) × (f' ≡ f)) → IsSplit xs i
   split_point xs i sorted clause calls =
       IsPartitionPoint-from_clause (λ y. ltb (n y) t) xs i clause (IsPartitionedBy-ltb n xs t sorted) calls
+
+  -- the same of a list that is shown by an equal one
+  pub split_items : {F : Type 0} {g : Mut F (Bor X × Unit {0}) Bool} {f : F} (items shown : List X) (i : ℕ) → shown ≡ items →
+      IsNonDecreasingBy n items →
+      ((q : X → Bool) → ComputesKey g q f → IsPartitionedBy q shown → IsPartitionPoint (λ y. q y ≡ true) (λ y. q y ≡ false) shown i) →
+      ((a : Bor X × Unit {0}) (r : Bool) (f' : F) → Called g f a r f' → (r ≡ ltb (n a.0.now) t) × (f' ≡ f)) → IsSplit items i
+  split_items items shown i is sorted clause calls =
+      subst (λ (l : List X). IsSplit l i) is (split_point shown i (subst (IsNonDecreasingBy n) (sym is) sorted) clause calls)
 
   pub before_point : (xs : List X) (i : ℕ) → IsSplit xs i → (k : ℕ) (d : X) → k < i → n (slice_index_or xs k d) < t
   before_point xs i split k d before = let test = split.0 k d (omega arith) before in grind (arith, nat_tests, test)

@@ -1,24 +1,20 @@
 // The fields that the relocation records of a file fill, by their places.
-ghost use Rattle.std.specs.Prelude.{◌≡◌, ◌<◌, ◌≤◌, ◌+◌, ◌^◌, ◌++◌, ◌==◌, ◌&&◌, ℕ, All, IfOk, IfSome, OnOk, IsTrue, length, map, filter};
-ghost use Rattle.std.specs.List.{slice_index_or, list_any};
-ghost use Rattle.std.specs.List.Sorted.{IsPermutation, IsNonDecreasingBy};
+ghost use Rattle.std.specs.Prelude.{◌≡◌, ◌<◌, ◌+◌, ◌^◌, ◌++◌, ◌==◌, IfOk, IfSome, OnOk, length, map};
+ghost use Rattle.std.specs.List.{list_any};
 ghost use Rattle.elf64_records.specs.FileHeader.{e_shnum};
 ghost use Rattle.elf64_records.specs.Records.{record_count};
 ghost use Rattle.object_set.specs.Files.{file_at};
 ghost use Rattle.object_set.specs.Walks.{IsRecord, records_in};
 ghost use Rattle.reloc_fields.specs.Table.{line_of};
 ghost use Rattle.symbol_table.specs.Fields.{kind_numbered, width_in, field_of, fields_of, fields_meeting, meets, comes_before, overlaps_earlier};
-ghost use Rattle.symbol_table.specs.inside.Places.{rank};
-ghost use Rattle.symbol_table.specs.inside.Fields.{place_of, rank_of, IsFieldOf, AreTwo, AreOnlyTwo};
+ghost use Rattle.symbol_table.specs.inside.Fields.{place_of, IsFieldOf, AreOnlyTwo};
 
+use crate::ordered_fields::{any_meets, has_earlier, only_two, sort_fields, window};
 use crate::places::FilePlace;
 use object_set::{ObjectSet, RecordId};
 use reloc_fields::{Kind, kind_of, width};
 use std::alloc::{AllocError, Global};
 use std::marker::Model;
-
-/// How many bytes the largest field has.
-const LARGEST_FIELD: u64 = 8;
 
 /// The field that a relocation record fills.
 #[derive(Clone, Copy)]
@@ -56,7 +52,7 @@ pub fn is_of_kind(number: u32, kind: Kind) -> bool
 }
 
 /// Whether a record of a file comes before another one of it, in record order.
-fn comes_before(id: RecordId, other: RecordId) -> bool
+pub fn comes_before(id: RecordId, other: RecordId) -> bool
     ensures { result ≡ comes_before id other }
 {
     id.table < other.table || (id.table == other.table && id.entry < other.entry)
@@ -77,7 +73,7 @@ impl RecordField {
     }
 
     /// Where it begins.
-    fn place(&self) -> FilePlace
+    pub fn place(&self) -> FilePlace
         ensures { result ≡ place_of self.now }
     {
         FilePlace {
@@ -87,7 +83,7 @@ impl RecordField {
     }
 
     /// Whether it has bytes among so many of a section from an offset on.
-    fn meets(&self, section: u32, from: u64, count: u32) -> bool
+    pub fn meets(&self, section: u32, from: u64, count: u32) -> bool
         ensures { result ≡ meets section from count self.now }
     {
         if self.id.section != section {
@@ -97,103 +93,6 @@ impl RecordField {
         } else {
             self.start - from < u64::from(count) && 0 < self.width
         }
-    }
-}
-
-/// Whether fields are in order of their places.
-fn are_sorted(fields: &[RecordField]) -> bool
-    ensures { IsTrue result → IsNonDecreasingBy rank_of fields.now }
-{
-    for i in 1..fields.len() {
-        if fields[i].place().is_before(fields[i - 1].place()) {
-            return false;
-        }
-    }
-    true
-}
-
-/// Puts fields in order of their places. Those of a compiler's files mostly are.
-fn sort_fields(fields: &mut Vec<RecordField>)
-    ensures same { IsPermutation fields.old.items fields.new.items }
-    ensures sorted { IsNonDecreasingBy rank_of fields.new.items }
-{
-    if !are_sorted(fields) {
-        fields.sort_unstable_by(|f, g| f.place().order(g.place()));
-    }
-}
-
-/// How many of fields in order begin before a place.
-fn count_before(fields: &[RecordField], place: FilePlace) -> usize
-    requires { IsNonDecreasingBy rank_of fields.now }
-    ensures within { result ≤ length fields.now }
-    ensures before { (k : ℕ) (d : RecordField) → k < result →
-        rank_of (slice_index_or fields.now k d) < rank place }
-    ensures after { (k : ℕ) (d : RecordField) → result ≤ k → k < length fields.now →
-        rank place ≤ rank_of (slice_index_or fields.now k d) }
-{
-    fields.partition_point(|f| f.place().is_before(place))
-}
-
-/// The part of fields in order that holds those that have bytes among so many of a section from an offset on.
-fn window(fields: &[RecordField], section: u32, from: u64, count: u32) -> &[RecordField]
-    requires sorted { IsNonDecreasingBy rank_of fields.now }
-    requires narrow { All (λ f. f.width ≤ 8) fields.now }
-    requires fits { from + count < 2 ^ 64 }
-    ensures { filter (meets section from count) result.now
-        ≡ filter (meets section from count) fields.now }
-{
-    let first = FilePlace {
-        section,
-        offset: from.saturating_sub(LARGEST_FIELD),
-    };
-    let end = FilePlace {
-        section,
-        offset: from + u64::from(count),
-    };
-    let rest = &fields[count_before(fields, first)..];
-    &rest[..count_before(rest, end)]
-}
-
-/// Whether one of fields has bytes that are also this one's, and is an earlier record's.
-fn has_earlier(fields: &[RecordField], field: RecordField) -> bool
-    ensures { let section = field.id.section in
-        result ≡ list_any
-        (λ f. meets section field.start field.width f && comes_before f.id field.id) fields.now }
-{
-    let RecordField { id, start, width } = field;
-    fields.iter().any(|f| f.meets(id.section, start, width) && comes_before(f.id, id))
-}
-
-/// Whether one of fields has bytes among so many of a section from an offset on.
-fn any_meets(fields: &[RecordField], section: u32, from: u64, count: u32) -> bool
-    ensures { result ≡ list_any (meets section from count) fields.now }
-{
-    fields.iter().any(|f| f.meets(section, from, count))
-}
-
-/// The fields that have bytes among so many of a section from an offset on, where there are two of them.
-fn only_two(
-    fields: &[RecordField],
-    section: u32,
-    from: u64,
-    count: u32,
-) -> Option<(RecordField, RecordField)>
-    ensures { AreTwo (filter (meets section from count) fields.now) result }
-{
-    let mut first = None;
-    let mut second = None;
-    for field in fields {
-        if field.meets(section, from, count) {
-            if second.is_some() {
-                return None;
-            }
-            second = first;
-            first = Some(*field);
-        }
-    }
-    match (second, first) {
-        (Some(f), Some(g)) => Some((f, g)),
-        _ => None,
     }
 }
 

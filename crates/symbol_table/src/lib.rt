@@ -2,6 +2,7 @@
 // Table"), which place a relocation record goes to, and where the program is entered. Names are compared as bytes.
 #![tactic(auto)]
 
+mod branches;
 mod candidates;
 mod commons;
 mod definition;
@@ -9,6 +10,7 @@ mod entry;
 mod fields;
 mod laws;
 mod names;
+mod ordered_fields;
 mod places;
 mod prologue;
 mod records;
@@ -20,10 +22,10 @@ mod table;
 mod target;
 mod text;
 
-pub use fields::{FileFields, RecordField};
+pub use fields::{FileFields, RecordField, is_of_kind, kind_numbered};
 pub use laws::{fields_are_apart, records_are_sound};
 pub use places::FilePlace;
-pub use prologue::Prologues;
+pub use prologue::{FormFacts, LOW_HIGH_HALF, PrologueForm, Prologues, is_half};
 pub use resolved::{Resolved, resolve};
 pub use target::{CodePlace, Piece, Target};
 

@@ -7,6 +7,7 @@ ghost use Rattle.elf64_records.specs.FileHeader.{e_shnum};
 ghost use Rattle.elf64_records.specs.Sections.{section_bytes};
 ghost use Rattle.elf64_records.specs.Symbols.{symbol_count};
 ghost use Rattle.object_set.specs.Files.{file_at};
+ghost use Rattle.object_set.specs.Walks.{IsRecord};
 ghost use Rattle.symbol_table.specs.Prologue.{facts_of, is_half, are_halves, has_form, has_some_form, has_two_entries, has_recognised_prologue};
 ghost use Rattle.symbol_table.specs.Fields.{fields_meeting};
 ghost use Rattle.symbol_table.specs.inside.Fields.{IsFieldOf};
@@ -15,7 +16,7 @@ ghost use Rattle.symbol_table.specs.inside.Entries.{entry_at, AreEntries};
 
 use crate::fields::{FileFields, RecordField, is_of_kind};
 use crate::places::FilePlace;
-use object_set::ObjectSet;
+use object_set::{ObjectSet, RecordId};
 use ppc_bytes::word_at;
 use reloc_fields::Kind;
 use std::alloc::{AllocError, Global};
@@ -44,10 +45,11 @@ pub struct FormFacts {
 }
 
 /// The high half of the second word, `addi r2,r2`.
-const LOW_HIGH_HALF: u32 = 0x3842;
+pub const LOW_HIGH_HALF: u32 = 0x3842;
 
 impl PrologueForm {
-    fn facts(self) -> FormFacts
+    /// What it is made of.
+    pub fn facts(self) -> FormFacts
         ensures { result ≡ facts_of self }
     {
         match self {
@@ -157,6 +159,25 @@ fn is_same(addend: i64, other: i64) -> bool
     addend == other
 }
 
+/// Whether a field begins at an offset, and its record is of a kind, against `.TOC.`, with an addend.
+pub fn is_half(set: &ObjectSet, field: RecordField, kind: Kind, addend: i64, at: u64) -> bool
+    requires { IsRecord set.now field.id }
+    ensures { let b = file_at set.now field.id.file in
+        result ≡ is_half b kind addend at field }
+{
+    let RecordId {
+        file,
+        table,
+        entry,
+        ..
+    } = field.id;
+    let rela = set.view(file).rela(table, entry);
+    is_of_kind(rela.kind, kind)
+        && set.is_toc_base(file, rela.symbol)
+        && is_same(rela.addend, addend)
+        && field.start == at
+}
+
 /// The recognised prologues of a file. Contracts see the file.
 #[derive(Drop)]
 pub struct Prologues<'a, 'b> {
@@ -195,18 +216,13 @@ impl<'a, 'b> Prologues<'a, 'b> {
         &self.fields
     }
 
-    /// Whether a field begins at an offset, and its record is of a kind, against `.TOC.`, with an addend.
+    /// Whether a field of the file begins at an offset, and its record is of a kind, against `.TOC.`, with an addend.
     fn is_half(&self, kind: Kind, addend: i64, at: u64, field: RecordField) -> bool
         requires { IsFieldOf self.now.files self.now.file field }
         ensures { let b = file_at self.now.files self.now.file in
             result ≡ is_half b kind addend at field }
     {
-        let (set, file) = (self.fields.set(), self.fields.file());
-        let rela = set.view(file).rela(field.id.table, field.id.entry);
-        is_of_kind(rela.kind, kind)
-            && set.is_toc_base(file, rela.symbol)
-            && is_same(rela.addend, addend)
-            && field.start == at
+        is_half(self.fields.set(), field, kind, addend, at)
     }
 
     /// Whether just two fields have bytes of the two words at an offset of a section, those of a form's halves.

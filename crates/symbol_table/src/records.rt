@@ -11,10 +11,10 @@ ghost use Rattle.object_set.specs.Walks.{IsRecord};
 ghost use Rattle.symbol_table.specs.Fields.{kind_numbered};
 ghost use Rattle.symbol_table.specs.Text.{text_number};
 ghost use Rattle.symbol_table.specs.laws.Sections.{IsAbout};
-ghost use Rattle.symbol_table.specs.Records.{site_of, is_outside, is_unfit, is_in_prologue, is_left_out, is_code, may_call, may_branch, may_go, target_refusal, kind_refusal, record_refusal, records_refusal};
+ghost use Rattle.symbol_table.specs.Records.{site_of, is_outside, is_unfit, is_in_prologue, is_left_out, may_go, target_refusal, kind_refusal, record_refusal, records_refusal};
 ghost use Rattle.symbol_table.specs.inside.Records.{IsFilling, LiesIn, table_refusal, file_records_refusal};
 
-use crate::definition::is_instruction;
+use crate::branches::{may_branch, may_call};
 use crate::fields::kind_numbered;
 use crate::names::owned;
 use crate::prologue::Prologues;
@@ -165,40 +165,6 @@ impl<'r, 'a, 'b> FileRecords<'r, 'a, 'b> {
         }
     }
 
-    /// Whether a place of text is an instruction's.
-    fn is_code(&self, section: u32, offset: u64) -> bool
-        ensures { result ≡ is_code self.now.files section offset }
-    {
-        if self.resolved.text_count() <= section {
-            return false;
-        }
-        let (file, number) = self.resolved.text_of(section);
-        is_instruction(self.resolved.set(), file, number, offset)
-    }
-
-    /// Whether a call may go to a target: to an instruction, or to a weak symbol that stands for nothing.
-    fn may_call(&self, target: Target) -> bool
-        ensures { result ≡ may_call self.now.files target }
-    {
-        match target {
-            Target::Code { section, offset } => self.is_code(section, offset),
-            Target::WeakNone(_) => true,
-            Target::Data { .. } | Target::Number(_) | Target::TocBase { .. } => false,
-        }
-    }
-
-    /// Whether a conditional branch of a section may go to a target: to an instruction of its own section.
-    fn may_branch(&self, own: Option<u32>, target: Target) -> bool
-        ensures { result ≡ may_branch self.now.files own target }
-    {
-        match (own, target) {
-            (Some(own), Target::Code { section, offset }) => {
-                section == own && self.is_code(section, offset)
-            }
-            _ => false,
-        }
-    }
-
     /// Whether a record's relocation may go to a target.
     fn may_go(&self, id: RecordId, kind: Kind, target: Target) -> bool
         requires { IsRecord self.now.files id }
@@ -206,10 +172,10 @@ impl<'r, 'a, 'b> FileRecords<'r, 'a, 'b> {
             result ≡ may_go self.now.files own kind target }
     {
         match kind {
-            Kind::Rel24 | Kind::Rel24Notoc => self.may_call(target),
+            Kind::Rel24 | Kind::Rel24Notoc => may_call(self.resolved, target),
             Kind::Rel14 => {
                 let own = self.resolved.text_number(id.file, self.section(id));
-                self.may_branch(own, target)
+                may_branch(self.resolved, own, target)
             }
             _ => true,
         }

@@ -1,246 +1,79 @@
 // Resolution of small sets of files: how it refuses them, and where the program is entered.
+mod listings;
 mod many;
-mod objects;
 mod records;
-mod shared;
+mod slots;
 mod stands;
 
-use crate::resolve;
-use object_set::{ObjectSet, Refusal};
-use objects::Lies::{Absolute, Common, Data, Dropped, Function, MoreText, Text, Undefined};
-use objects::{File, GLOBAL, LOCAL, WEAK, link};
+use listings::{columns_of, entered, files_of, name_of, told};
 use std::alloc::Global;
 use std::test::Fail;
 
-/// What resolution answers.
-#[derive(Clone, Copy)]
-enum Outcome {
-    /// The program is entered at this offset of this text section.
-    Entered(u32, u64),
-    /// This name has two GLOBAL definitions, in these files.
-    Twice(&'static [u8], u32, u32),
-    /// Nothing has the entry's name.
-    NoEntry,
-    /// The entry is no instruction.
-    NotCode,
-}
+/// What a row shows, the files, the entry, and what comes of the link: a name with two GLOBAL definitions and their files, an entry that is
+/// refused, or the text section and the offset at which the program is entered. Each file has two text sections.
+const LINKS: &str = "\
+a file between | g GLOBAL text / _start GLOBAL text, u GLOBAL undefined / g GLOBAL text | _start | twice g 0 2
+in one file | g GLOBAL text, g GLOBAL data 4 | g | twice g 0 0
+the first two of three | g GLOBAL undefined / g GLOBAL text / g GLOBAL text / g GLOBAL text | g | twice g 1 2
+numbers | g GLOBAL number 1 / g GLOBAL number 1 | g | twice g 0 1
+the name that is seen first | f GLOBAL text, g GLOBAL text 4 / g GLOBAL text / f GLOBAL text | _start | twice f 0 2
+a reference is seen | g WEAK undefined / f GLOBAL text, g GLOBAL text 4 / f GLOBAL text, g GLOBAL text 4 | _start | twice g 1 2
+a LOCAL symbol isn't seen, and neither it nor a weak, common or dropped one is a GLOBAL definition \
+| g LOCAL text, f GLOBAL text, g GLOBAL text / g WEAK text, f GLOBAL common 4 4, g GLOBAL dropped / g GLOBAL text, f GLOBAL text \
+| main | twice f 0 2
+names that aren't text, one of them the other's beginning | ff-fe GLOBAL text, ff GLOBAL text / ff GLOBAL text | ff-fe | twice ff 0 1
+the empty name | empty GLOBAL text / empty GLOBAL text | empty | twice empty 0 1
+another name | _start GLOBAL text | main | no entry
+a reference | main GLOBAL undefined | main | no entry
+a weak reference | main WEAK undefined | main | no entry
+a LOCAL symbol | main LOCAL text | main | no entry
+a symbol that isn't kept | main GLOBAL dropped | main | no entry
+the base of the table of contents | .TOC. GLOBAL undefined | .TOC. | no entry
+a name's beginning | main GLOBAL text | mai | no entry
+a zero byte more | main GLOBAL text | main-00 | no entry
+another last letter | main GLOBAL text | maim | no entry
+no name | main GLOBAL text | empty | no entry
+a byte more | main GLOBAL text | main-ff | no entry
+data | main GLOBAL data | main | entry is no code
+a place between two instructions | main GLOBAL text 2 | main | entry is no code
+the end of a section | main GLOBAL text 16 | main | entry is no code
+a number | main GLOBAL number 4 | main | entry is no code
+a common | main GLOBAL common 4 4 | main | entry is no code
+a common before a weak definition | main WEAK text, main GLOBAL common 4 4 | main | entry is no code
+the front of a section | main GLOBAL text | main | enters 0.0
+the last instruction | main GLOBAL text 12 | main | enters 0.12
+the second text section | main GLOBAL more-text 4 | main | enters 1.4
+the global entry point of two | main GLOBAL function 4 | main | enters 0.4
+a weak definition | main WEAK text 4 | main | enters 0.4
+the second file | main LOCAL text / main GLOBAL text 8 | main | enters 2.8
+a GLOBAL definition behind a weak one | main WEAK text / main GLOBAL more-text 4 | main | enters 3.4
+a weak one behind one that isn't kept | main GLOBAL dropped / main WEAK text 8 | main | enters 2.8
+the first of two that are weak | main WEAK text 4 / main WEAK text 8 | main | enters 0.4
+a definition beside a common | main GLOBAL common 4 4 / main GLOBAL text 8 | main | enters 2.8
+names that are empty, not text, and equal up to a byte \
+| main GLOBAL text, mai GLOBAL text 4, ff GLOBAL text 8, empty GLOBAL text 12 | empty | enters 0.12
+names of symbols 1 to 4 that begin at one place \
+| main@1 WEAK undefined, empty@1 WEAK text 4, empty@1 GLOBAL text 8, empty@1 WEAK text 12, empty@2 GLOBAL text | main | enters 0.8
+a name that begins behind its first letter \
+| main@1 WEAK undefined, empty@1 WEAK text 4, empty@1 GLOBAL text 8, empty@1 WEAK text 12, empty@2 GLOBAL text | ain | enters 0.0";
 
-use Outcome::{Entered, NoEntry, NotCode, Twice};
-
-/// Whether files with an entry are answered so.
-fn is_answered(alloc: Global, set: &ObjectSet, entry: &[u8], answer: Outcome) -> bool {
-    match (resolve(alloc, set, entry), answer) {
-        (Ok(resolved), Entered(section, offset)) => {
-            let place = resolved.entry();
-            place.section == section && place.offset == offset
-        }
-        (Err(Refusal::Duplicate(name, first, second)), Twice(twice, one, other)) => {
-            name.as_slice() == twice && (first, second) == (one, other)
-        }
-        (Err(Refusal::NoEntry(name)), NoEntry) => name.as_slice() == entry,
-        (Err(Refusal::EntryNotCode(name)), NotCode) => name.as_slice() == entry,
-        _ => false,
-    }
-}
-
-/// Files, an entry, and what resolution answers.
-type Row = (&'static [File], &'static [u8], Outcome);
-
-/// Names with two GLOBAL definitions.
-const TWICE: [Row; 9] = [
-    // a file between them needs another name
-    (
-        &[
-            &[(b"g", GLOBAL, Text(0))],
-            &[(b"_start", GLOBAL, Text(0)), (b"u", GLOBAL, Undefined)],
-            &[(b"g", GLOBAL, Text(0))],
-        ],
-        b"_start",
-        Twice(b"g", 0, 2),
-    ),
-    // in one file
-    (
-        &[&[(b"g", GLOBAL, Text(0)), (b"g", GLOBAL, Data(4))]],
-        b"g",
-        Twice(b"g", 0, 0),
-    ),
-    // the first two of three
-    (
-        &[
-            &[(b"g", GLOBAL, Undefined)],
-            &[(b"g", GLOBAL, Text(0))],
-            &[(b"g", GLOBAL, Text(0))],
-            &[(b"g", GLOBAL, Text(0))],
-        ],
-        b"g",
-        Twice(b"g", 1, 2),
-    ),
-    // numbers count, and so does data beside text
-    (
-        &[
-            &[(b"g", GLOBAL, Absolute(1))],
-            &[(b"g", GLOBAL, Absolute(1))],
-        ],
-        b"g",
-        Twice(b"g", 0, 1),
-    ),
-    // the name that is seen first, though the other one's second definition comes first
-    (
-        &[
-            &[(b"f", GLOBAL, Text(0)), (b"g", GLOBAL, Text(4))],
-            &[(b"g", GLOBAL, Text(0))],
-            &[(b"f", GLOBAL, Text(0))],
-        ],
-        b"_start",
-        Twice(b"f", 0, 2),
-    ),
-    // a reference is enough to be seen first
-    (
-        &[
-            &[(b"g", WEAK, Undefined)],
-            &[(b"f", GLOBAL, Text(0)), (b"g", GLOBAL, Text(4))],
-            &[(b"f", GLOBAL, Text(0)), (b"g", GLOBAL, Text(4))],
-        ],
-        b"_start",
-        Twice(b"g", 1, 2),
-    ),
-    // a LOCAL symbol isn't seen, and neither it nor a weak, common or dropped one is a GLOBAL definition
-    (
-        &[
-            &[
-                (b"g", LOCAL, Text(0)),
-                (b"f", GLOBAL, Text(0)),
-                (b"g", GLOBAL, Text(0)),
-            ],
-            &[
-                (b"g", WEAK, Text(0)),
-                (b"f", GLOBAL, Common(4, 4)),
-                (b"g", GLOBAL, Dropped(0)),
-            ],
-            &[(b"g", GLOBAL, Text(0)), (b"f", GLOBAL, Text(0))],
-        ],
-        b"main",
-        Twice(b"f", 0, 2),
-    ),
-    // names that aren't text, one of them the other's beginning
-    (
-        &[
-            &[(b"\xff\xfe", GLOBAL, Text(0)), (b"\xff", GLOBAL, Text(0))],
-            &[(b"\xff", GLOBAL, Text(0))],
-        ],
-        b"\xff\xfe",
-        Twice(b"\xff", 0, 1),
-    ),
-    // the empty name
-    (
-        &[&[(b"", GLOBAL, Text(0))], &[(b"", GLOBAL, Text(0))]],
-        b"",
-        Twice(b"", 0, 1),
-    ),
-];
-
-/// Entries that are refused.
-const REFUSED: [Row; 17] = [
-    // nothing has the name
-    (&[&[(b"_start", GLOBAL, Text(0))]], b"main", NoEntry),
-    (&[&[(b"main", GLOBAL, Undefined)]], b"main", NoEntry),
-    (&[&[(b"main", WEAK, Undefined)]], b"main", NoEntry),
-    (&[&[(b"main", LOCAL, Text(0))]], b"main", NoEntry),
-    (&[&[(b"main", GLOBAL, Dropped(0))]], b"main", NoEntry),
-    (&[&[(b".TOC.", GLOBAL, Undefined)]], b".TOC.", NoEntry),
-    (&[&[(b"main", GLOBAL, Text(0))]], b"mai", NoEntry),
-    (&[&[(b"main", GLOBAL, Text(0))]], b"main\x00", NoEntry),
-    (&[&[(b"main", GLOBAL, Text(0))]], b"maim", NoEntry),
-    (&[&[(b"main", GLOBAL, Text(0))]], b"", NoEntry),
-    (&[&[(b"main", GLOBAL, Text(0))]], b"main\xff", NoEntry),
-    // what has it is no instruction
-    (&[&[(b"main", GLOBAL, Data(0))]], b"main", NotCode),
-    (&[&[(b"main", GLOBAL, Text(2))]], b"main", NotCode),
-    (&[&[(b"main", GLOBAL, Text(16))]], b"main", NotCode),
-    (&[&[(b"main", GLOBAL, Absolute(4))]], b"main", NotCode),
-    (&[&[(b"main", GLOBAL, Common(4, 4))]], b"main", NotCode),
-    (
-        &[&[(b"main", WEAK, Text(0)), (b"main", GLOBAL, Common(4, 4))]],
-        b"main",
-        NotCode,
-    ),
-];
-
-/// Entries that are found. Each file has two text sections.
-const ENTERED: [Row; 11] = [
-    (&[&[(b"main", GLOBAL, Text(0))]], b"main", Entered(0, 0)),
-    (&[&[(b"main", GLOBAL, Text(12))]], b"main", Entered(0, 12)),
-    (&[&[(b"main", GLOBAL, MoreText(4))]], b"main", Entered(1, 4)),
-    // the global entry point of two
-    (&[&[(b"main", GLOBAL, Function(4))]], b"main", Entered(0, 4)),
-    (&[&[(b"main", WEAK, Text(4))]], b"main", Entered(0, 4)),
-    // the second file
-    (
-        &[&[(b"main", LOCAL, Text(0))], &[(b"main", GLOBAL, Text(8))]],
-        b"main",
-        Entered(2, 8),
-    ),
-    (
-        &[
-            &[(b"main", WEAK, Text(0))],
-            &[(b"main", GLOBAL, MoreText(4))],
-        ],
-        b"main",
-        Entered(3, 4),
-    ),
-    (
-        &[
-            &[(b"main", GLOBAL, Dropped(0))],
-            &[(b"main", WEAK, Text(8))],
-        ],
-        b"main",
-        Entered(2, 8),
-    ),
-    // the first of two that are weak, and a definition beside a common
-    (
-        &[&[(b"main", WEAK, Text(4))], &[(b"main", WEAK, Text(8))]],
-        b"main",
-        Entered(0, 4),
-    ),
-    (
-        &[
-            &[(b"main", GLOBAL, Common(4, 4))],
-            &[(b"main", GLOBAL, Text(8))],
-        ],
-        b"main",
-        Entered(2, 8),
-    ),
-    // names that are empty, not text, and equal up to a byte
-    (
-        &[&[
-            (b"main", GLOBAL, Text(0)),
-            (b"mai", GLOBAL, Text(4)),
-            (b"\xff", GLOBAL, Text(8)),
-            (b"", GLOBAL, Text(12)),
-        ]],
-        b"",
-        Entered(0, 12),
-    ),
-];
-
-#[test]
-fn a_name_is_defined_once(rt: HostRuntime) -> Result<(), Fail> {
-    for (i, (files, entry, answer)) in TWICE.iter().enumerate() {
-        let files = link(rt.alloc(), files)?;
-        assert!(rt; files.len() <= 4096);
-        let set = ObjectSet::take(rt.alloc(), &files).expect(&rt, "object files");
-        assert!(rt; is_answered(rt.alloc(), &set, entry, *answer), "row {i}");
-    }
-    Ok(())
+/// What comes of a link.
+fn outcome(alloc: Global, files: &str, entry: &str) -> Result<String, Fail> {
+    let files = files_of(alloc, files)?;
+    let entry = name_of(entry);
+    Ok(match entered(alloc, &files, entry)? {
+        Ok(place) => format!(in alloc; "enters {}.{}", place.section, place.offset)?,
+        Err(refusal) => told(alloc, &refusal, entry)?,
+    })
 }
 
 #[test]
-fn the_entry_is_an_instruction(rt: HostRuntime) -> Result<(), Fail> {
-    for (i, (files, entry, answer)) in REFUSED.iter().chain(ENTERED.iter()).enumerate() {
-        let files = link(rt.alloc(), files)?;
-        assert!(rt; files.len() <= 4096);
-        let set = ObjectSet::take(rt.alloc(), &files).expect(&rt, "object files");
-        assert!(rt; is_answered(rt.alloc(), &set, entry, *answer), "row {i}");
+fn a_name_is_defined_once_and_the_entry_is_an_instruction(rt: HostRuntime) -> Result<(), Fail> {
+    for row in LINKS.lines() {
+        let columns = columns_of(rt.alloc(), row, '|')?;
+        assert_eq!(rt; columns.len(), 4, "{row}");
+        let outcome = outcome(rt.alloc(), columns[1], columns[2])?;
+        assert!(rt; outcome.as_str() == columns[3], "{row}: {outcome}");
     }
     Ok(())
 }

@@ -2,24 +2,18 @@
 use Rattle.std.specs.Prelude.{ℕ, ◌≡◌, pos, ◌+◌, ◌/◌, ◌^◌, Bool, ◌&&◌, ◌||◌, ◌==◌, List, ◌++◌, length, filter, min, if◌then◌else◌}
 use Rattle.std.specs.List.{list_any}
 use Rattle.symbol_table.specs.declared.fields.RecordField.{RecordField}
-use Rattle.symbol_table.specs.declared.prologue.FormFacts.{FormFacts}
-use Rattle.call_sites.specs.declared.prologue.TheConstants.{ADDI_R2_R2}
+use Rattle.symbol_table.specs.declared.prologue.TheConstants.{LOW_HIGH_HALF}
 use Rattle.symbol_table.specs.Fields.{meets, fields_meeting}
 use Rattle.symbol_table.specs.Prologue.{is_half, are_halves, word_in}
-use Rattle.call_sites.specs.declared.prologue.PrologueForm.{PrologueForm}
 use Rattle.call_sites.specs.declared.prologue.Halves.{Halves}
 use Rattle.call_sites.specs.declared.prologue.Seen.{Seen}
-
--- a form as it is defined
-abbrev pub facts_in : PrologueForm → FormFacts
-facts_in form = record { high_half = form.high_half; high = form.high; low = form.low; low_addend = form.low_addend }
 
 -- two words are a prologue of a form
 abbrev pub is_form : ℕ → List ℕ → Halves → Bool
 is_form file b h =
     word_in b h.section h.at / 2 ^ 16 == h.form.high_half
-    && word_in b h.section (h.at + 4) / 2 ^ 16 == ADDI_R2_R2
-    && are_halves b (facts_in h.form) h.at (fields_meeting file b h.section h.at 8)
+    && word_in b h.section (h.at + 4) / 2 ^ 16 == LOW_HIGH_HALF
+    && are_halves b h.form h.at (fields_meeting file b h.section h.at 8)
 
 module _ (b : List ℕ) (h : Halves) where
   abbrev pub is_met : RecordField → Bool

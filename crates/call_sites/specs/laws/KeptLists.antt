@@ -44,7 +44,8 @@ module _ {X : Type 0} (n : X → ℕ) where
       cond a (x ∷ all) all ≡ cond b (x ∷ less) less ++ cond c (x ∷ here) here
   joined x all less here a b c is ea eb ec =
       ap (λ (t : Bool). cond t (x ∷ all) all) ea ∙ ap (λ (l : List X). x ∷ l) is
-      ∙ sym (ap (λ (t : Bool). cond t (x ∷ less) less ++ cond c (x ∷ here) here) eb ∙ ap (λ (t : Bool). (x ∷ less) ++ cond t (x ∷ here) here) ec)
+      ∙ sym (ap (λ (t : Bool). cond t (x ∷ less) less ++ cond c (x ∷ here) here) eb
+      ∙ ap (λ (t : Bool). (x ∷ less) ++ cond t (x ∷ here) here) ec)
 
   joined_here : (x : X) (all less here : List X) (a b c : Bool) → all ≡ less ++ here → less ≡ [] → a ≡ true → b ≡ false → c ≡ true →
       cond a (x ∷ all) all ≡ cond b (x ∷ less) less ++ cond c (x ∷ here) here

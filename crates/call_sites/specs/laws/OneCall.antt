@@ -192,7 +192,8 @@ clash files section offset q r none q_in r_in same before one other =
     let some = some_of (kind_numbered (rela_of b r.table r.entry).kind) sound.kind sound.kind_is other.some in
     let fills : 0 < (line_of sound.kind).width = omega (arith, call_wide sound.kind some) in
     let field = sound.field fills in
-    elim (fields_apart files q r field.apart q_in same (one.place ∙ sym other.place) before (omega (arith, one.wide)) (omega (arith, other.wide))) [
+    elim (fields_apart files q r field.apart q_in same (one.place ∙ sym other.place) before (omega (arith, one.wide))
+    (omega (arith, other.wide))) [
       | inl earlier ↦ omega (arith, earlier, one.start, other.start, one.wide, other.wide)
       | inr later ↦ omega (arith, later, one.start, other.start, one.wide, other.wide)
     ]

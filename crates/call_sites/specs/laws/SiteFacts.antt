@@ -94,7 +94,8 @@ recognised_inside files file section at whole file_in within is =
     two_entries_inside files file section at whole file_in within first.0 first.1
 
 -- a call enters at its place, or past the prologue there
-entry_case : (linkage : Linkage) (callee : Callee) (many recognised : Bool) → nat_le 2 callee.entries ≡ many → callee.recognised ≡ recognised →
+entry_case : (linkage : Linkage) (callee : Callee) (many recognised : Bool) → nat_le 2 callee.entries ≡ many →
+    callee.recognised ≡ recognised →
     (entry_offset linkage callee ≡ 0) ⊎ ((entry_offset linkage callee ≡ 8) × (callee.recognised ≡ true))
 entry_case WithToc callee true true lots known =
     inr (ap (λ (t : Bool). if t then (if callee.recognised then 8 else 0) else 0) lots ∙ ap (λ (t : Bool). if t then 8 else 0) known, known)
@@ -115,7 +116,9 @@ entered files groups f k offset linkage whole s place =
       | inl none ↦ record {
         number = place.number;
         within = omega (arith, none, size, place.within);
-        whole = (let same : offset + entry_offset linkage callee ≡ offset = omega (arith, none) in ap (λ (n : ℕ). n % 4) same ∙ place.aligned);
+        whole =
+            (let same : offset + entry_offset linkage callee ≡ offset = omega (arith, none) in
+            ap (λ (n : ℕ). n % 4) same ∙ place.aligned);
       }
       | inr eight ↦ (
           let known : has_recognised_prologue s.file (file_at files s.file) s.section offset ≡ true =

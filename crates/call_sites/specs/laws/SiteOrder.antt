@@ -60,20 +60,23 @@ module _ (files : List (List ℕ)) (base : ℕ → ℕ) where
     file_is : f.id.file ≡ file
     here : begins_at section offset f ≡ true
 
-  all_here : (file section offset : ℕ) → file < length files → All (IsHere file section offset) (calls_at file (file_at files file) section offset)
+  all_here : (file section offset : ℕ) → file < length files →
+      All (IsHere file section offset) (calls_at file (file_at files file) section offset)
   all_here file section offset file_in =
       let b = file_at files file in
       let fields = fields_of file b in
       let calls = unsorted_calls file b in
       let begins = begins_at section offset in
       let each = All-filter begins (IsCall files) calls (unsorted_are files file file_in) in
-      let own = All-filter begins (IsFieldOf files file) calls (All-filter (is_call b) (IsFieldOf files file) fields (fields_are files file file_in)) in
+      let own = All-filter begins (IsFieldOf files file) calls
+      (All-filter (is_call b) (IsFieldOf files file) fields (fields_are files file file_in)) in
       let there = filter_passes begins calls in
       let both : All (IsHere file section offset) (filter begins calls) =
       λ k d within. record { call = each k d within; file_is = (own k d within).file_is; here = there k d within } in
       subst (All (IsHere file section offset)) (filter_twice (is_call b) begins fields) both
 
-  key_is : (file section offset : ℕ) (f : RecordField) → IsHere file section offset f → key f ≡ base (text_index files file section) + offset
+  key_is : (file section offset : ℕ) (f : RecordField) → IsHere file section offset f →
+      key f ≡ base (text_index files file section) + offset
   key_is file section offset f is =
       let parts = and_parts (eqb f.id.section section) (eqb f.start offset) is.here in
       let in_section = parts.0 in
@@ -115,18 +118,17 @@ module _ (files : List (List ℕ)) (base : ℕ → ℕ) where
         (offsets_rise file section n file_in) here))
 
     -- the number of text sections before the next section
+    one_length : (s : SectionId) (t : Bool) → length (if t then s ∷ [] else []) ≡ (if t then 1 else 0)
+    one_length s true = refl
+    one_length s false = refl
+
     index_case : (file section : ℕ) (t : Bool) → is_text (file_at files file) section ≡ t →
         text_index files file (suc section) ≡ text_index files file section + (if t then 1 else 0)
-    index_case file section true text =
+    index_case file section t text =
         let b = file_at files file in
-        let one : length (text_at file b section) ≡ 1 =
-        ap (λ (t : Bool). length {A = SectionId} (if t then record { file = file; section = section } ∷ [] else [])) text in
-        let all = length-append (items_in text_walk file b section) (text_at file b section) in
-        omega (arith, one, all)
-    index_case file section false text =
-        let b = file_at files file in
-        let one : length (text_at file b section) ≡ 0 =
-        ap (λ (t : Bool). length {A = SectionId} (if t then record { file = file; section = section } ∷ [] else [])) text in
+        let s : SectionId = record { file = file; section = section } in
+        let one : length (text_at file b section) ≡ (if t then 1 else 0) =
+        ap (λ (u : Bool). length {A = SectionId} (if u then s ∷ [] else [])) text ∙ one_length s t in
         let all = length-append (items_in text_walk file b section) (text_at file b section) in
         omega (arith, one, all)
 
@@ -146,11 +148,13 @@ module _ (files : List (List ℕ)) (base : ℕ → ℕ) where
         (omega (arith, makes index file section lies, ap base next))
         (offsets_rise file section size file_in)
     section_case file section false text file_in within =
-        let same : text_index files file (suc section) ≡ text_index files file section = omega (arith, index_case file section false text) in
+        let same : text_index files file (suc section) ≡ text_index files file section =
+        omega (arith, index_case file section false text) in
         omega (arith, ap base same)
 
     section_rises : (file section : ℕ) → file < length files → section < e_shnum (file_at files file) →
-        Rise (base (text_index files file section)) (base (text_index files file (suc section))) (calls_in file (file_at files file) section)
+        Rise (base (text_index files file section)) (base (text_index files file (suc section)))
+        (calls_in file (file_at files file) section)
     unfolding calls_in
     section_rises file section file_in within = section_case file section (is_text (file_at files file) section) refl file_in within
 
@@ -251,7 +255,8 @@ module _ (files : List (List ℕ)) (groups : List ℕ) (whole : set_refusal file
   pub sites_sound : (k : ℕ) (site : CallSite) → slice_get (call_sites files groups) k ≡ Some site → IsSoundSite files groups site
   sites_sound k site found =
       let made = mapped_at (call_site files groups) (call_fields files) k site found in
-      let call = rises_at (IsCall files) (key files place_base) (place_base 0) (place_base (length (text_sections files))) (call_fields files) k made.0
+      let call = rises_at (IsCall files) (key files place_base) (place_base 0) (place_base (length (text_sections files)))
+      (call_fields files) k made.0
       (calls_rise files place_base whole none (places_make files whole)) made.1 in
       subst (IsSoundSite files groups) made.2 (site_sound files groups made.0 whole none call)
 
@@ -262,9 +267,11 @@ module _ (files : List (List ℕ)) (groups : List ℕ) (whole : set_refusal file
       let f = mapped_at (call_site files groups) (call_fields files) k a first in
       let g = mapped_at (call_site files groups) (call_fields files) (suc k) b second in
       let rise = calls_rise files place_base whole none (places_make files whole) in
-      let less = rises_next (IsCall files) (key files place_base) (place_base 0) (place_base (length (text_sections files))) (call_fields files) k f.0 g.0
+      let less = rises_next (IsCall files) (key files place_base) (place_base 0) (place_base (length (text_sections files)))
+      (call_fields files) k f.0 g.0
       rise f.1 g.1 in
-      let rises = rises_at (IsCall files) (key files place_base) (place_base 0) (place_base (length (text_sections files))) (call_fields files) in
+      let rises = rises_at (IsCall files) (key files place_base) (place_base 0) (place_base (length (text_sections files)))
+      (call_fields files) in
       let f_small = start_small files whole none f.0 (rises k f.0 rise f.1) in
       let g_small = start_small files whole none g.0 (rises (suc k) g.0 rise g.1) in
       let f_stands = subst (StandsAs files f.0) f.2 (site_stands files groups f.0) in
@@ -278,7 +285,8 @@ restored_case site passes restore =
     slot_there site.restore site.slot (NoRestore site.site) passes restore
 
 -- where nothing is refused, a site behind which r2 is restored has its slot
-pub sites_restored : (files : List (List ℕ)) (groups : List ℕ) (k : ℕ) (site : CallSite) → first_in restore_refusal (call_sites files groups) ≡ None →
+pub sites_restored : (files : List (List ℕ)) (groups : List ℕ) (k : ℕ) (site : CallSite) →
+    first_in restore_refusal (call_sites files groups) ≡ None →
     slice_get (call_sites files groups) k ≡ Some site → site.restore ≡ true → site.slot ≡ true
 sites_restored files groups k site passes found restore =
     restored_case site (passes_at restore_refusal (call_sites files groups) k site passes found) restore

@@ -1,6 +1,6 @@
 // Objects as listings: the words of section 1, the symbols and the records.
 use crate::{CallSite, Sites, prologue_of, sites};
-use object_builder::{FileHeader, Object, Record, Section, Stated, Symbol};
+use object_builder::{Object, Record, Section, Symbol};
 use object_set::{FileBytes, ObjectSet, Refusal};
 use std::alloc::{AllocError, Global};
 use std::test::Fail;
@@ -86,20 +86,6 @@ fn sections_of<'a>(
     Ok(sections)
 }
 
-/// An object of these parts.
-fn of_parts<'a>(sections: &'a [Section<'a>], symbols: &'a [Symbol<'a>]) -> Object<'a> {
-    Object {
-        header: FileHeader::OBJECT,
-        sections,
-        null_symbol: Symbol::NULL,
-        symbols,
-        null_section: Stated::TRUE,
-        symbol_table: Stated::TRUE,
-        symbol_names: Stated::TRUE,
-        section_names: Stated::TRUE,
-    }
-}
-
 fn file_bytes(alloc: Global, file: &File) -> Result<FileBytes, Fail> {
     let bytes = bytes_of(alloc, file.words)?;
     let records = records_of(alloc, file.records)?;
@@ -107,7 +93,7 @@ fn file_bytes(alloc: Global, file: &File) -> Result<FileBytes, Fail> {
     let sections = sections_of(alloc, &bytes, &records)?;
     Ok(FileBytes {
         name: String::from_str(alloc, "t.o")?,
-        bytes: of_parts(&sections, &symbols).file(alloc)?,
+        bytes: Object::of_parts(&sections, &symbols).file(alloc)?,
     })
 }
 

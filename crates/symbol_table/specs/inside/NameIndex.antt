@@ -4,7 +4,6 @@ use Rattle.std.specs.Borrow.{Bor}
 use Rattle.std.specs.BTreeMap.{BTreeMap, get_by}
 use Rattle.std.specs.Cmp.Lexicographic.{slice_cmp}
 use Rattle.std.specs.Ordering.{nat_cmp}
-use Rattle.symbol_table.specs.inside.Keys.{named}
 
 -- the 64 bits of FNV-1a
 abbrev pub name_hash : List ℕ → ℕ

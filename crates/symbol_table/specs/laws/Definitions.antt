@@ -1,5 +1,5 @@
 -- What a name stands for is a definition: a symbol of one of the files that is absolute or lies in a kept section.
-use Rattle.std.proofs.Common.{◌≡◌, ◌<◌, ◌≤◌, ℕ, zero, suc, Bool, true, false, List, [], ◌∷◌, ◌++◌, ◌&&◌, length, Option, Some, None}
+use Rattle.std.proofs.Common.{◌≡◌, ◌<◌, ℕ, zero, suc, Bool, true, false, List, [], ◌∷◌, ◌&&◌, length, Option, Some, None}
 use Rattle.std.proofs.Common.{slice_get, filter, sym, ap, ◌∙◌, refl, arith, subst, if◌then◌else◌}
 use Rattle.std.specs.Str.{bytes_eq}
 use Rattle.std.specs.Option.{option_map}

@@ -1,12 +1,13 @@
--- The first refusal of a walk past all records is the first of those of the files, of their sections, and of the records there.
+-- What is first in a walk past all records is the first of what is first in the files, in their sections, and among the records there.
 use Rattle.std.proofs.Common.{◌≡◌, ℕ, zero, suc, ◌+◌, List, [], ◌∷◌, ◌++◌, length, Option, None, Some, sym, ap, ◌∙◌, refl, arith}
 use Rattle.elf64_records.specs.First.{◌orelse◌, first_from, first_in}
 use Rattle.elf64_records.specs.FileHeader.{e_shnum}
 use Rattle.elf64_records.specs.Records.{record_count}
 use Rattle.object_set.specs.Files.{file_at}
-use Rattle.object_set.specs.Walks.{items_before, items_in, record_walk, records_in, record_id}
+use Rattle.object_set.specs.declared.places.RecordId.{RecordId}
+use Rattle.object_set.specs.Walks.{all_items, items_before, items_in, record_walk, records_in, record_id}
 use Rattle.symbol_table.specs.Records.{record_refusal, records_refusal}
-use Rattle.symbol_table.specs.inside.Records.{entry_refusal_at, table_refusal, file_records_refusal}
+use Rattle.symbol_table.specs.inside.Records.{file_records_refusal}
 
 orelse-assoc : {R : Type 0} (o p q : Option R) → (o orelse p) orelse q ≡ o orelse (p orelse q)
 orelse-assoc None p q = refl
@@ -50,28 +51,40 @@ module _ {X R : Type 0} (f : X → Option R) where
       ∙ ap (λ (m : ℕ). first_from g 0 n orelse g m) last
       ∙ sym (first_more g 0 n)
 
-module _ (files : List (List ℕ)) where
+module _ {R : Type 0} (files : List (List ℕ)) (at : RecordId → Option R) where
+  -- what is first among the records that a section of a file holds
+  abbrev pub first_of_table : ℕ → ℕ → Option R
+  first_of_table file i =
+      let b = file_at files file in
+      first_from (λ k. at (record_id file b i k)) 0 (record_count b i)
+
+  -- what is first among the records of a file
+  abbrev pub first_of_file : ℕ → Option R
+  first_of_file file = first_from (first_of_table file) 0 (e_shnum (file_at files file))
+
   entries_first : (file i n : ℕ) →
-      first_in (record_refusal files) (records_in file (file_at files file) i n) ≡ first_from (entry_refusal_at files file i) 0 n
+      first_in at (records_in file (file_at files file) i n) ≡ first_from (λ k. at (record_id file (file_at files file) i k)) 0 n
   entries_first file i n =
       let b = file_at files file in
-      first_of_parts (record_refusal files) (records_in file b i) (λ k. record_id file b i k ∷ []) refl (λ m. refl) n
-      ∙ first_same (λ k. first_in (record_refusal files) (record_id file b i k ∷ [])) (entry_refusal_at files file i)
-      (λ k. orelse-none (record_refusal files (record_id file b i k))) 0 n
+      first_of_parts at (records_in file b i) (λ k. record_id file b i k ∷ []) refl (λ m. refl) n
+      ∙ first_same (λ k. first_in at (record_id file b i k ∷ [])) (λ k. at (record_id file b i k))
+      (λ k. orelse-none (at (record_id file b i k))) 0 n
 
-  tables_first : (file n : ℕ) →
-      first_in (record_refusal files) (items_in record_walk file (file_at files file) n) ≡ first_from (table_refusal files file) 0 n
+  tables_first : (file n : ℕ) → first_in at (items_in record_walk file (file_at files file) n) ≡ first_from (first_of_table file) 0 n
   tables_first file n =
       let b = file_at files file in
       let part = λ (i : ℕ). records_in file b i (record_count b i) in
-      first_of_parts (record_refusal files) (items_in record_walk file b) part refl (λ m. refl) n
-      ∙ first_same (λ i. first_in (record_refusal files) (part i)) (table_refusal files file)
-      (λ i. entries_first file i (record_count b i)) 0 n
+      first_of_parts at (items_in record_walk file b) part refl (λ m. refl) n
+      ∙ first_same (λ i. first_in at (part i)) (first_of_table file) (λ i. entries_first file i (record_count b i)) 0 n
 
-  -- the first of all records
-  pub records_first : records_refusal files ≡ first_from (file_records_refusal files) 0 (length files)
-  records_first =
+  -- what is first among all records is the first of what is first in each file
+  pub first_of_records : first_in at (all_items record_walk files) ≡ first_from first_of_file 0 (length files)
+  first_of_records =
       let part = λ (file : ℕ). items_in record_walk file (file_at files file) (e_shnum (file_at files file)) in
-      first_of_parts (record_refusal files) (items_before record_walk files) part refl (λ m. refl) (length files)
-      ∙ first_same (λ file. first_in (record_refusal files) (part file)) (file_records_refusal files)
-      (λ file. tables_first file (e_shnum (file_at files file))) 0 (length files)
+      first_of_parts at (items_before record_walk files) part refl (λ m. refl) (length files)
+      ∙ first_same (λ file. first_in at (part file)) first_of_file (λ file. tables_first file (e_shnum (file_at files file)))
+      0 (length files)
+
+-- the first refusal of a record
+pub records_first : (files : List (List ℕ)) → records_refusal files ≡ first_from (file_records_refusal files) 0 (length files)
+records_first files = first_of_records files (record_refusal files)

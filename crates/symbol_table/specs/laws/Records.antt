@@ -1,12 +1,12 @@
 -- What records have where none is refused.
-use Rattle.std.proofs.Common.{◌≡◌, ◌<◌, ◌≤◌, ◌+◌, ◌-◌, ◌%◌, ◌⊎◌, inl, inr, ℕ, ℤ, pos, zero, suc, Bool, true, false, not, ◌&&◌, ◌||◌, eqb, ltb, max, min, List, [], ◌∷◌, ◌++◌, map, length, Option, None, Some, sym, ap, ◌∙◌, subst, refl, arith, if◌then◌else◌}
+use Rattle.std.proofs.Common.{◌≡◌, ◌<◌, ◌≤◌, ◌+◌, ◌%◌, ◌⊎◌, inl, inr, ℕ, ℤ, pos, zero, suc, Bool, true, false, not, ◌&&◌, ◌||◌, eqb, ltb, max, min, List, [], ◌∷◌, map, length, Option, None, Some, sym, ap, ◌∙◌, subst, refl, arith, if◌then◌else◌}
 use Rattle.std.specs.List.{list_any}
 use Rattle.std.specs.Ordering.{int_eq}
 use Rattle.std.specs.Cmp.{signed_Decides}
 use Rattle.std.proofs.lemmas.Bool.{cases_lt}
 use Rattle.std.proofs.lemmas.Bool.Decides.{nat_tests}
 use Rattle.std.proofs.lemmas.List.Folds.{list_any-append}
-use Rattle.elf64_records.specs.First.{◌orelse◌, when, first_from}
+use Rattle.elf64_records.specs.First.{◌orelse◌, when}
 use Rattle.elf64_records.specs.laws.First.{both_none, walk_none}
 use Rattle.elf64_records.specs.FileHeader.{e_shnum}
 use Rattle.elf64_records.specs.Sections.{sh_size, sh_info}
@@ -23,7 +23,7 @@ use Rattle.symbol_table.specs.declared.fields.RecordField.{RecordField}
 use Rattle.symbol_table.specs.declared.target.Target.{Target}
 use Rattle.symbol_table.specs.Text.{text_number}
 use Rattle.symbol_table.specs.Targets.{target_of}
-use Rattle.symbol_table.specs.Fields.{kind_numbered, width_in, field_of, records_of, fields_of, meets, comes_before, overlaps_earlier}
+use Rattle.symbol_table.specs.Fields.{kind_numbered, field_of, records_of, fields_of, meets, comes_before, overlaps_earlier}
 use Rattle.symbol_table.specs.Prologue.{word_in}
 use Rattle.symbol_table.specs.Sites.{rule_of, admits, is_text_only, suit, are_left_out, is_thread_local}
 use Rattle.symbol_table.specs.Records.{site_of, is_outside, is_unfit, is_in_prologue, is_prologue_kind, is_slot_kind, is_left_out, looks_at_symbol, may_go, target_fault, target_refusal, kind_refusal, known_refusal, record_refusal, records_refusal}

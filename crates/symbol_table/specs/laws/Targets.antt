@@ -1,12 +1,10 @@
 -- A symbol goes where its definition lies, what goes to text goes to one of the text sections, and an entry that isn't refused is an
 -- instruction.
-use Rattle.std.proofs.Common.{◌≡◌, ◌<◌, ◌≤◌, ◌⊎◌, inl, inr, ℕ, ℤ, zero, suc, ◌+◌, ◌%◌, Bool, true, false, List, [], ◌∷◌, ◌++◌, ◌&&◌, ◌||◌}
-use Rattle.std.proofs.Common.{length, Option, Some, None, slice_get, sym, ap, ◌∙◌, refl, arith, subst, if◌then◌else◌}
+use Rattle.std.proofs.Common.{◌≡◌, ◌<◌, ℕ, ℤ, ◌%◌, Bool, true, false, List, ◌&&◌, ◌||◌}
+use Rattle.std.proofs.Common.{length, Option, Some, None, sym, ap, refl, arith, subst, if◌then◌else◌}
 use Rattle.std.specs.Prelude.{◌==◌, nat_lt, is_some, unwrap_or, IsSome}
-use Rattle.std.proofs.Math.Nat.{zero-add}
-use Rattle.std.proofs.lemmas.Bool.{and_parts, cases_lt}
+use Rattle.std.proofs.lemmas.Bool.{and_parts}
 use Rattle.std.proofs.lemmas.Bool.Decides.{nat_tests}
-use Rattle.std.proofs.lemmas.Option.{slice_get_within, some_pair_parts}
 use Rattle.elf64_records.specs.FileHeader.{e_shnum}
 use Rattle.elf64_records.specs.Sections.{sh_size}
 use Rattle.elf64_records.specs.Symbols.{symbol_count, st_value}

@@ -6,7 +6,7 @@ use Rattle.elf64_records.specs.FileHeader.{e_shnum}
 use Rattle.object_set.specs.declared.places.SectionId.{SectionId}
 use Rattle.object_set.specs.Files.{file_at}
 use Rattle.object_set.specs.Sections.{is_text}
-use Rattle.object_set.specs.laws.Walks.{IsItem, item_at, item_from}
+use Rattle.object_set.specs.laws.Walks.{item_at, item_from}
 use Rattle.symbol_table.specs.Text.{text_at, text_walk, text_sections, text_index, text_number}
 
 abbrev section : ℕ → ℕ → SectionId

@@ -23,7 +23,8 @@ invariant_of-result c =
     c.in_ok-items.ensures ∙ ap (λ (g : GroupedFiles). call_sites g.files g.groups) c.in_ok-calls.ensures in
     let few = few_sites files groups whole c.requires.sound in
     let long = ap (λ (l : List CallSite). length l) are in
-    let small : ltb 0x2000_0000 (text_size files) ≡ false = when_none (ltb 0x2000_0000 (text_size files)) _ c.in_ok-check_text_size.ensures in
+    let small : ltb 0x2000_0000 (text_size files) ≡ false =
+    when_none (ltb 0x2000_0000 (text_size files)) _ c.in_ok-check_text_size.ensures in
     let size : text_size files ≤ 0x2000_0000 = grind (arith, nat_tests, small) in
     let most : length c.in_ok-items.items.items ≤ 0x2000_0000 = omega (arith, few, long, size) in
     most

@@ -22,7 +22,8 @@ loop-entry-preserved c =
     c.section_header-section.ensures.info ∙ ap (λ (l : List ℕ). sh_info l table) c.view-view.ensures in
     sees_record b c.args.halves file table n c.args.seen c.loop-entry.all c.with_record-all.result c.loop-entry.invariant
     (c.with_record-all.ensures
-    ∙ ap (λ (s : ℕ). with_field b c.args.halves c.loop-entry.all (field_of b (record { file = file; table = table; entry = n; section = s })))
+    ∙ ap (λ (s : ℕ).
+    with_field b c.args.halves c.loop-entry.all (field_of b (record { file = file; table = table; entry = n; section = s })))
     section)
 
 pub returns : goal.returns

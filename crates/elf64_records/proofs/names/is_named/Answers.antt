@@ -6,4 +6,5 @@ use Rattle.elf64_records.proofs.names.is_named.Goals as goal
 pub returns : goal.returns
 returns c =
     c.eq.ensures
-    ∙ named_by_front c.args.table.now c.args.name.now c.args.start c.min.result c.length_to_zero.result c.min.ensures c.length_to_zero.ensures.value
+    ∙ named_by_front c.args.table.now c.args.name.now c.args.start c.min.result c.length_to_zero.result c.min.ensures
+    c.length_to_zero.ensures.value

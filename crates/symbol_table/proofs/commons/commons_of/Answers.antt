@@ -1,4 +1,4 @@
-use Rattle.std.proofs.Common.{◌≡◌, ◌<◌, length, arith, ap, ◌+◌, sym, subst}
+use Rattle.std.proofs.Common.{◌≡◌, ◌<◌, ℕ, List, length, arith, ap, ◌+◌, sym, subst}
 use Rattle.symbol_table.specs.Candidates.{commons_before}
 use Rattle.symbol_table.specs.inside.Commons.{AreCommonNumbers}
 use Rattle.symbol_table.proofs.NumberedCommons.{commons_more}
@@ -18,5 +18,5 @@ loop-i-preserved c =
     record {
       sizes = commons_more candidates i _ c.loop-i.sizes.items c.push_common.new.sizes.items within before.sizes
           c.in_ok-push_common.ensures;
-      numbers = subst (AreCommonNumbers candidates (i + 1)) (sym c.in_ok-push.ensures.items) more;
+      numbers = subst (AreCommonNumbers candidates (i + 1)) (sym {A = List ℕ} c.in_ok-push.ensures.items) more;
     }

@@ -16,5 +16,6 @@ returns c =
     let same = ap (λ (g : GroupedFiles). g.files) c.self.view_is in
     let count = ap (λ (g : GroupedFiles). length g.files) c.self.view_is in
     c.index.ensures
-    ∙ kept_at files c.self.inside.prologues.items c.args.file c.index.result.now c.self.invariant.prologues_are (omega (arith, count, c.requires))
+    ∙ kept_at files c.self.inside.prologues.items c.args.file c.index.result.now c.self.invariant.prologues_are
+    (omega (arith, count, c.requires))
     ∙ ap (λ (l : List (List ℕ)). file_of l c.args.file) same

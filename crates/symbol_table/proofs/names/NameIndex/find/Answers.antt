@@ -10,7 +10,8 @@ pub returns-in-None : goal.returns-in-None
 returns-in-None c =
     let count : c.len.result ≡ length c.self.inside.slots.items = c.len.ensures ∙ c.self.inside.slots.ok.0 in
     let slotted = slots_of c.self.inside.names.items c.deref.result.now c.self.inside.slots.items c.deref-2.result.now
-    c.first_slot-start.result c.len.result c.args.name.now c.deref.ensures.value c.deref-2.ensures.value c.first_slot-start.ensures.start count
+    c.first_slot-start.result c.len.result c.args.name.now c.deref.ensures.value c.deref-2.ensures.value
+    c.first_slot-start.ensures.start count
     c.in_default.ensures in
     ap (λ (l : List (List ℕ)). list_any (bytes_eq c.args.name.now) l) (sym c.self.view_is)
     ∙ not_found (named c.self.inside.names.items) c.args.name.now c.self.inside.slots.items c.self.inside.crowd c.self.invariant slotted
@@ -21,7 +22,8 @@ pub returns-else-is_name : goal.returns-else-is_name
 returns-else-is_name c =
     let count : c.len.result ≡ length c.self.inside.slots.items = c.len.ensures ∙ c.self.inside.slots.ok.0 in
     let slotted = slots_of c.self.inside.names.items c.deref.result.now c.self.inside.slots.items c.deref-2.result.now
-    c.first_slot-start.result c.len.result c.args.name.now c.deref.ensures.value c.deref-2.ensures.value c.first_slot-start.ensures.start count
+    c.first_slot-start.result c.len.result c.args.name.now c.deref.ensures.value c.deref-2.ensures.value
+    c.first_slot-start.ensures.start count
     c.in_default.ensures in
     let other = c.if-is_name.ensures.1 in
     ap (λ (l : List (List ℕ)). list_any (bytes_eq c.args.name.now) l) (sym c.self.view_is)

@@ -39,7 +39,8 @@ invariant_of-self-in-Continue-branch-3 c =
     let more : named c.push-in_default.new.self.items ≡ named names ++ c.args.name.now ∷ [] =
     ap named c.in_ok-push-in_default.ensures.items ∙ named_append names (c.args.name ∷ []) in
     subst (λ (l : List (List ℕ)). IsIndex l c.self.inside.slots.items c.insert.new.self) (sym more)
-    (index_crowded (named names) c.args.name.now c.self.inside.slots.items c.self.inside.crowd c.insert.new.self number c.self.invariant none
+    (index_crowded (named names) c.args.name.now c.self.inside.slots.items c.self.inside.crowd c.insert.new.self number c.self.invariant
+    none
     last c.in_ok-insert-in_default.ensures.updates)
 
 -- the name lies in the map, and has no number

@@ -2,7 +2,7 @@ use Rattle.std.proofs.Common.{take}
 use Rattle.std.specs.List.{filter}
 use Rattle.symbol_table.specs.Fields.{meets}
 use Rattle.symbol_table.specs.inside.Fields.{AreHeld}
-use Rattle.symbol_table.proofs.fields.only_two.Given as goal
+use Rattle.symbol_table.proofs.ordered_fields.only_two.Given as goal
 
 -- of the fields so far, those that have bytes of the range are held
 abbrev pub invariant-loop-field : goal.invariant-loop-field

@@ -2,7 +2,7 @@ use Rattle.std.proofs.Common.{rules}
 use Rattle.symbol_table.specs.inside.Places.{rank}
 use Rattle.symbol_table.specs.inside.Fields.{rank_of}
 use Rattle.symbol_table.proofs.PlaceOrder.{split_point, before_point, after_point}
-use Rattle.symbol_table.proofs.fields.count_before.Goals as goal
+use Rattle.symbol_table.proofs.ordered_fields.count_before.Goals as goal
 
 -- what the fields before the place are
 pub returns-clause-before : goal.returns-clause-before

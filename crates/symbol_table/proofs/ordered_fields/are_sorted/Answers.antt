@@ -1,7 +1,7 @@
 use Rattle.std.proofs.Common.{arith}
 use Rattle.std.proofs.lemmas.List.Sorted.{IsNonDecreasingBy-from_all_adjacent}
 use Rattle.symbol_table.specs.inside.Fields.{rank_of}
-use Rattle.symbol_table.proofs.fields.are_sorted.Goals as goal
+use Rattle.symbol_table.proofs.ordered_fields.are_sorted.Goals as goal
 
 -- no neighbours are out of order
 pub returns : goal.returns

@@ -1,7 +1,7 @@
 use Rattle.std.proofs.Common.{sym, arith}
 use Rattle.symbol_table.specs.Fields.{meets}
 use Rattle.symbol_table.proofs.FieldWindows.{third_held}
-use Rattle.symbol_table.proofs.fields.only_two.Goals as goal
+use Rattle.symbol_table.proofs.ordered_fields.only_two.Goals as goal
 
 -- there are more than two
 pub returns-then-is_some : goal.returns-then-is_some
