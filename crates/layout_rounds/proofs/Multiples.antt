@@ -107,7 +107,8 @@ module _ (t : KeyedText) (keyed : IsKeyed t) (F : ℕ → Bool) where
       let most : align ≤ unit t = align_most t.sections s (section_count t) lt in
       let page : align ∣ 0x10000 = power_divides align 0x10000 sound.power (16, refl) sound.most in
       let whole : align ∣ unit t = power_divides align (unit t) sound.power (unit_power_of_two t keyed) most in
-      let offset : align ∣ offset_at t s = subst (λ (x : ℕ). align ∣ x) (sym (at_offset t keyed s lt)) (spot_divided t.sections t.reach s) in
+      let offset : align ∣ offset_at t s =
+      subst (λ (x : ℕ). align ∣ x) (sym (at_offset t keyed s lt)) (spot_divided t.sections t.reach s) in
       let here : offset_at t s + 0 ≡ offset_at t s = omega arith in
       dvd-add align (start_divided align (group_at t s) page whole) (subst (λ (x : ℕ). align ∣ x) (sym here) offset)
 

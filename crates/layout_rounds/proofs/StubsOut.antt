@@ -89,10 +89,16 @@ module _ (shape : Shape) (span : ℕ) (t : KeyedText) (far : List Bool) (places 
       let placed = laid.places_are.sections (site_of shape.sites.items i).section section_in in
       omega (arith, section, offset, placed, at_is)
 
-  pub address_small : call_address t shape.sites.items (member far) i < 2 ^ 62
+  address_small : call_address t shape.sites.items (member far) i < 2 ^ 62
   address_small =
       let small = section_low t calls_here.keyed (member far) (site_of shape.sites.items i).section section_in in
       omega (arith, small, (calls_here.from i lt).within)
+
+  pub address_low : (site : ShapeSite) (at : ℕ) →
+      site ≡ site_of shape.sites.items i →
+      at ≡ slice_index places.sections site.section →
+      at + site.offset < 2 ^ 62
+  address_low site at site_is at_is = omega (arith, address_is site at site_is at_is, address_small)
 
   pub stub_is : (k at : ℕ) →
       k ≡ slice_index t.numbers i →

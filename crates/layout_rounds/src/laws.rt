@@ -41,8 +41,8 @@ pub fn one_far_set()
 pub fn sections_and_stubs_lie_in_text()
     ensures sections { (t : KeyedText) (F : ℕ → Bool) (s : ℕ) → IsKeyed t → s < section_count t →
         IsInLayout t F (section_address t F s) (section_size t s) (section_of t.sections s).align }
-    ensures instructions { (t : KeyedText) (F : ℕ → Bool) (s : ℕ) → IsKeyed t → s < section_count t →
-        section_address t F s % 4 ≡ 0 }
+    ensures instructions { (t : KeyedText) (F : ℕ → Bool) (s : ℕ) →
+        IsKeyed t → s < section_count t → section_address t F s % 4 ≡ 0 }
     ensures stubs { (t : KeyedText) (F : ℕ → Bool) (k : ℕ) → IsKeyed t → k < key_count t →
         0 < stub_size t F k → IsInLayout t F (stub_address t F k) (stub_size t F k) 16 }
 {}

@@ -3,13 +3,15 @@ ghost use Rattle.std.specs.Prelude.{◌≡◌, ◌+◌, ◌≤◌, ◌<◌, leng
 ghost use Rattle.layout_rounds.specs.FarSets.{member};
 ghost use Rattle.layout_rounds.specs.Shapes.{keyed_text, IsSound, IsSpan};
 ghost use Rattle.layout_rounds.specs.Settled.{is_out, stub_reach, IsFarLayout, IsAccepted, IsRefused};
+ghost use Rattle.layout_rounds.specs.Layout.{key_count};
+ghost use Rattle.layout_rounds.specs.inside.Looks.{HasWays, WereNear, IsLooked};
 
 use crate::far_set::FarSet;
 use crate::grouping::group;
 use crate::keys::Keyed;
-use crate::near::{reaches, ways_of};
+use crate::near::{Way, reaches, ways_of};
 use crate::placing::{Places, place};
-use crate::rounds::{widen, widen_grown};
+use crate::rounds::{Round, widen, widen_grown};
 use crate::shape::Shape;
 use ppc_bytes::constants::TEXT_LIMIT;
 use ppc_bytes::{Memory, Steps};
@@ -108,6 +110,58 @@ fn accepted_layout(shape: &Shape, span: u32, settled: Settled) -> Result<Settled
     }
 }
 
+/// The places of a text in the layout of a far set, and the round of looks at the keys outside the set.
+#[derive(Drop)]
+struct Looked {
+    places: Places,
+    round: Round,
+}
+
+/// Lays out the text of a shape for a far set, and looks at each key outside the set.
+fn look_at_all<L: Ledger>(
+    alloc: Global,
+    shape: &Shape,
+    span: u32,
+    keyed: &Keyed,
+    ways: &[Way],
+    far: &mut FarSet,
+    steps: &mut Steps<L>,
+) -> Result<Looked, Memory>
+    requires sound { IsSound shape.now }
+    requires ways { HasWays shape.now span keyed.now ways.now }
+    requires room { length far.old ≡ key_count (keyed_text shape.now span) }
+    ensures looked { IfOk result (IsLooked shape.now span far.old far.new) }
+    ensures tick { steps.new ≡ steps.old + 1 }
+{
+    let places = place(alloc, keyed, far, steps)?;
+    let round = widen(ways, span, places.starts(), far);
+    Ok(Looked { places, round })
+}
+
+/// Lays out the text of a shape for a far set that has grown, and looks at the keys outside the set on whose ways something grew since
+/// the places `before`, in whose layout each key outside the set reached near.
+fn look_at_grown<L: Ledger>(
+    alloc: Global,
+    shape: &Shape,
+    span: u32,
+    keyed: &Keyed,
+    ways: &[Way],
+    before: &Places,
+    far: &mut FarSet,
+    steps: &mut Steps<L>,
+) -> Result<Looked, Memory>
+    requires sound { IsSound shape.now }
+    requires ways { HasWays shape.now span keyed.now ways.now }
+    requires room { length far.old ≡ key_count (keyed_text shape.now span) }
+    requires near { WereNear shape.now span far.old before.now }
+    ensures looked { IfOk result (IsLooked shape.now span far.old far.new) }
+    ensures tick { steps.new ≡ steps.old + 1 }
+{
+    let places = place(alloc, keyed, far, steps)?;
+    let round = widen_grown(ways, span, before.starts(), places.starts(), far);
+    Ok(Looked { places, round })
+}
+
 /// Finds the far set of a shape by whole rounds: each looks at all keys outside the set.
 pub fn settle_rounds<L: Ledger>(
     alloc: Global,
@@ -127,14 +181,13 @@ pub fn settle_rounds<L: Ledger>(
     let ways = ways_of(alloc, shape, span, &keyed)?;
     let mut looks = 0;
     loop {
-        let places = place(alloc, &keyed, &far, steps)?;
-        let round = widen(&ways, span, places.starts(), &mut far);
-        looks += round.looks;
-        if round.added == 0 {
+        let looked = look_at_all(alloc, shape, span, &keyed, &ways, &mut far, steps)?;
+        looks += looked.round.looks;
+        if looked.round.added == 0 {
             let settled = Settled {
                 keyed,
                 far,
-                places,
+                places: looked.places,
                 looks,
             };
             return accepted_layout(shape, span, settled);
@@ -160,14 +213,15 @@ pub fn settle<L: Ledger>(
     let keyed = group(alloc, shape, span)?;
     let mut far = FarSet::none(alloc, &keyed)?;
     let ways = ways_of(alloc, shape, span, &keyed)?;
-    let mut places = place(alloc, &keyed, &far, steps)?;
-    let mut round = widen(&ways, span, places.starts(), &mut far);
+    let first = look_at_all(alloc, shape, span, &keyed, &ways, &mut far, steps)?;
+    let mut places = first.places;
+    let mut round = first.round;
     let mut looks = round.looks;
     while round.added > 0 {
-        let next = place(alloc, &keyed, &far, steps)?;
-        round = widen_grown(&ways, span, places.starts(), next.starts(), &mut far);
+        let next = look_at_grown(alloc, shape, span, &keyed, &ways, &places, &mut far, steps)?;
+        places = next.places;
+        round = next.round;
         looks += round.looks;
-        places = next;
     }
     let settled = Settled {
         keyed,

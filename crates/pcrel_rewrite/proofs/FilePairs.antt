@@ -11,6 +11,7 @@ use Rattle.object_set.specs.Files.{file_at}
 use Rattle.object_set.specs.Refusals.{set_refusal}
 use Rattle.object_set.specs.Sections.{is_text}
 use Rattle.object_set.specs.Walks.{IsRecord, record_id}
+use Rattle.reloc_fields.specs.declared.kind.Kind.{Kind}
 use Rattle.reloc_fields.specs.declared.kind.Kind.TheVariants.{GotPcrel34, PcrelOpt}
 use Rattle.reloc_fields.specs.Table.{line_of}
 use Rattle.symbol_table.specs.Fields.{fields_of, meets}
@@ -19,7 +20,7 @@ use Rattle.symbol_table.specs.declared.target.CodePlace.{CodePlace}
 use Rattle.symbol_table.specs.Text.{text_sections, text_index, text_number}
 use Rattle.symbol_table.specs.laws.Text.{text_index_found, text_number_at}
 use Rattle.pcrel_rewrite.specs.declared.text_pairs.TextPair.{TextPair}
-use Rattle.pcrel_rewrite.specs.Pairs.{is_number, IsRecognised}
+use Rattle.pcrel_rewrite.specs.Pairs.{is_number, IsRecordAt, IsRecognised}
 use Rattle.pcrel_rewrite.specs.Words.{ArePairWords}
 use Rattle.pcrel_rewrite.specs.inside.Gathered.{IsAskedBy, IsLoadBy}
 use Rattle.pcrel_rewrite.specs.inside.Order.{head_of}
@@ -61,58 +62,45 @@ record IsLoadedIn (files : List (List ℕ)) (file : ℕ) (r : RecordId) (place :
 loaded_in : (files : List (List ℕ)) (r : RecordId) (place : CodePlace) → IsLoadBy files r place → IsLoadedIn files r.file r place
 loaded_in files r place by = record { kind_is = by.kind_is; offset_is = by.offset_is; address = by.address }
 
+-- something is so of a record of a file
+abbrev OfFile : List (List ℕ) → ℕ → (RecordId → Type 0) → Type 0
+OfFile files file By =
+    let b = file_at files file in
+    (i : ℕ) × (i < e_shnum b) × ((k : ℕ) × (k < record_count b i) × By (record_id file b i k))
+
 module _ (files : List (List ℕ)) (file : ℕ) (whole : set_refusal files ≡ None) (file_in : file < length files) where
-  -- a record that asks for a pair
-  record IsAsking (pair : TextPair) : Type 0 where
-    asking : RecordId
-    record_in : IsRecord files asking
-    file_is : asking.file ≡ file
-    place_is : slice_get (text_sections files) pair.section ≡ Some (section file asking.section)
-    by : IsAskedBy files asking pair
+  -- such a record, which is about the text section with this number
+  record IsAbout (number : ℕ) (By : RecordId → Type 0) : Type 0 where
+    id : RecordId
+    record_in : IsRecord files id
+    file_is : id.file ≡ file
+    place_is : slice_get (text_sections files) number ≡ Some (section file id.section)
+    by : By id
 
-  asking : (pair : TextPair) → AskedOf files file pair → IsAsking pair
-  asking pair asked =
+  about : (number : ℕ) (By : RecordId → Type 0) → ((r : RecordId) → By r → text_number files r.file r.section ≡ Some number) →
+      OfFile files file By → IsAbout number By
+  about number By section_is found =
       let b = file_at files file in
-      let i : ℕ = asked.0 in
-      let table_in : i < e_shnum b = asked.1 in
-      let k : ℕ = asked.2.0 in
-      let within : k < record_count b i = asked.2.1 in
-      let by : IsAskedBy files (record_id file b i k) pair = asked.2.2 in
-      let some : 0 < record_count b i = omega arith in
+      let i : ℕ = found.0 in
+      let table_in : i < e_shnum b = found.1 in
+      let k : ℕ = found.2.0 in
+      let within : k < record_count b i = found.2.1 in
+      let by : By (record_id file b i k) = found.2.2 in
+      let inside = about_within files file i whole file_in table_in (omega (arith, within)) in
       record {
-        asking = record_id file b i k;
+        id = record_id file b i k;
         record_in = record { file_in = file_in; table_in = table_in; within = within; section_is = refl };
         file_is = refl;
-        place_is =
-            numbered files file (sh_info b i) pair.section file_in (about_within files file i whole file_in table_in some) by.section_is;
+        place_is = numbered files file (sh_info b i) number file_in inside (section_is (record_id file b i k) by);
         by = by;
       }
 
-  -- a record that loads an address
-  record IsLoading (place : CodePlace) : Type 0 where
-    loading : RecordId
-    record_in : IsRecord files loading
-    file_is : loading.file ≡ file
-    place_is : slice_get (text_sections files) place.section ≡ Some (section file loading.section)
-    by : IsLoadBy files loading place
+  -- a record that asks for a pair, and one that loads an address
+  asking : (pair : TextPair) → AskedOf files file pair → IsAbout pair.section (λ r. IsAskedBy files r pair)
+  asking pair asked = about pair.section (λ r. IsAskedBy files r pair) (λ r by. by.section_is) asked
 
-  loading : (place : CodePlace) → LoadedOf files file place → IsLoading place
-  loading place loaded =
-      let b = file_at files file in
-      let i : ℕ = loaded.0 in
-      let table_in : i < e_shnum b = loaded.1 in
-      let k : ℕ = loaded.2.0 in
-      let within : k < record_count b i = loaded.2.1 in
-      let by : IsLoadBy files (record_id file b i k) place = loaded.2.2 in
-      let some : 0 < record_count b i = omega arith in
-      record {
-        loading = record_id file b i k;
-        record_in = record { file_in = file_in; table_in = table_in; within = within; section_is = refl };
-        file_is = refl;
-        place_is =
-            numbered files file (sh_info b i) place.section file_in (about_within files file i whole file_in table_in some) by.section_is;
-        by = by;
-      }
+  loading : (place : CodePlace) → LoadedOf files file place → IsAbout place.section (λ r. IsLoadBy files r place)
+  loading place loaded = about place.section (λ r. IsLoadBy files r place) (λ r by. by.section_is) loaded
 
   one_section : (k i j : ℕ) → slice_get (text_sections files) k ≡ Some (section file i) →
       slice_get (text_sections files) k ≡ Some (section file j) → i ≡ j
@@ -123,21 +111,21 @@ module _ (files : List (List ℕ)) (file : ℕ) (whole : set_refusal files ≡ N
       (s.file ≡ file) × ArePairWords (section_bytes (file_at files s.file) s.section) pair.head pair.tail
   asked_words pair s asked place =
       let is = asking pair asked in
-      let same : section file is.asking.section ≡ s = some_is (section file is.asking.section) s (sym is.place_is ∙ place) in
-      let words : ArePairWords (section_bytes (file_at files file) is.asking.section) pair.head pair.tail =
-      subst (λ (f : ℕ). ArePairWords (section_bytes (file_at files f) is.asking.section) pair.head pair.tail) is.file_is is.by.words in (
+      let same : section file is.id.section ≡ s = some_is (section file is.id.section) s (sym is.place_is ∙ place) in
+      let words : ArePairWords (section_bytes (file_at files file) is.id.section) pair.head pair.tail =
+      subst (λ (f : ℕ). ArePairWords (section_bytes (file_at files f) is.id.section) pair.head pair.tail) is.file_is is.by.words in (
         ap (λ (t : SectionId). t.file) (sym same),
         subst (λ (t : SectionId). ArePairWords (section_bytes (file_at files t.file) t.section) pair.head pair.tail) same words,
       )
 
   pub asked_place : (pair : TextPair) → AskedOf files file pair →
       (s : SectionId) × (slice_get (text_sections files) pair.section ≡ Some s)
-  asked_place pair asked = let is = asking pair asked in (section file is.asking.section, is.place_is)
+  asked_place pair asked = let is = asking pair asked in (section file is.id.section, is.place_is)
 
   pub asked_within : (pair : TextPair) → AskedOf files file pair → pair.section < length (text_sections files)
   asked_within pair asked =
       let is = asking pair asked in
-      slice_get_within (text_sections files) pair.section (section file is.asking.section) is.place_is
+      slice_get_within (text_sections files) pair.section (section file is.id.section) is.place_is
 
   -- a pair that is asked for, whose load is there and which is free is recognised
   pub recognised : (pair : TextPair) → AskedOf files file pair → LoadedOf files file (head_of pair) → IsFree files pair →
@@ -145,11 +133,11 @@ module _ (files : List (List ℕ)) (file : ℕ) (whole : set_refusal files ≡ N
   recognised pair asked loaded free =
       let a = asking pair asked in
       let l = loading (head_of pair) loaded in
-      let own = section file a.asking.section in
-      let same : l.loading.section ≡ a.asking.section =
-      one_section pair.section l.loading.section a.asking.section l.place_is a.place_is in
-      let asks = subst (λ (f : ℕ). IsAskedIn files f a.asking pair) a.file_is (asked_in files a.asking pair a.by) in
-      let loads = subst (λ (f : ℕ). IsLoadedIn files f l.loading (head_of pair)) l.file_is (loaded_in files l.loading (head_of pair) l.by) in
+      let own = section file a.id.section in
+      let same : l.id.section ≡ a.id.section =
+      one_section pair.section l.id.section a.id.section l.place_is a.place_is in
+      let asks = subst (λ (f : ℕ). IsAskedIn files f a.id pair) a.file_is (asked_in files a.id pair a.by) in
+      let loads = subst (λ (f : ℕ). IsLoadedIn files f l.id (head_of pair)) l.file_is (loaded_in files l.id (head_of pair) l.by) in
       let place : free.place ≡ own = some_is free.place own (sym free.place_is ∙ a.place_is) in
       record {
         is = record {
@@ -157,7 +145,7 @@ module _ (files : List (List ℕ)) (file : ℕ) (whole : set_refusal files ≡ N
           place_is = a.place_is;
           is = record {
             asked = record {
-              record_id = a.asking;
+              record_id = a.id;
               here = record {
                 record_in = a.record_in;
                 file_is = a.file_is;
@@ -169,7 +157,7 @@ module _ (files : List (List ℕ)) (file : ℕ) (whole : set_refusal files ≡ N
             };
             words = asks.words;
             load = record {
-              record_id = l.loading;
+              record_id = l.id;
               here = record {
                 record_in = l.record_in;
                 file_is = l.file_is;
@@ -192,60 +180,70 @@ own_record : (files : List (List ℕ)) (r : RecordId) → IsRecord files r → r
 own_record files r is =
     ap (λ (s : ℕ). record { file = r.file; table = r.table; entry = r.entry; section = s }) (sym is.section_is)
 
+of_file : (files : List (List ℕ)) (file : ℕ) (By : RecordId → Type 0) (r : RecordId) → IsRecord files r → r.file ≡ file → By r →
+    OfFile files file By
+of_file files file By r there same by =
+    let own : OfFile files r.file By =
+    (r.table, there.table_in, (r.entry, there.within, subst By (sym (own_record files r there)) by)) in
+    subst (λ (f : ℕ). OfFile files f By) same own
+
+-- the number of the section that a record is about
+number_is : (files : List (List ℕ)) (kind : Kind) (s : SectionId) (at number : ℕ) (r : RecordId) → IsRecordAt files kind s at r →
+    slice_get (text_sections files) number ≡ Some s → text_number files r.file r.section ≡ Some number
+number_is files kind s at number r here place =
+    ap (λ (f : ℕ). text_number files f r.section) here.file_is ∙ ap (λ (i : ℕ). text_number files s.file i) here.section_is
+    ∙ text_number_at files number s place
+
 asks : (files : List (List ℕ)) (pair : TextPair) (is : IsRecognised files pair) → IsAskedBy files is.is.asked.record_id pair
 asks files pair is =
     let r = is.is.asked.record_id in
     let here = is.is.asked.here in
     let s = is.place in
-    let back : s.file ≡ r.file = sym here.file_is in
-    let number : text_number files r.file r.section ≡ Some pair.section =
-    ap (λ (f : ℕ). text_number files f r.section) here.file_is ∙ ap (λ (i : ℕ). text_number files s.file i) here.section_is
-    ∙ text_number_at files pair.section s is.place_is in
     let inside : IsAskedIn files s.file r pair = record {
       kind_is = here.kind_is;
       head_is = here.offset_is;
       distance = is.is.asked.distance;
-      words = subst (λ (i : ℕ). ArePairWords (section_bytes (file_at files s.file) i) pair.head pair.tail) (sym here.section_is) is.is.words;
+      words = subst (λ (i : ℕ). ArePairWords (section_bytes (file_at files s.file) i) pair.head pair.tail) (sym here.section_is)
+          is.is.words;
     } in
-    let own = subst (λ (f : ℕ). IsAskedIn files f r pair) back inside in
-    record { section_is = number; kind_is = own.kind_is; head_is = own.head_is; distance = own.distance; words = own.words }
+    let own = subst (λ (f : ℕ). IsAskedIn files f r pair) (sym here.file_is) inside in
+    record {
+      section_is = number_is files PcrelOpt s pair.head pair.section r here is.place_is;
+      kind_is = own.kind_is;
+      head_is = own.head_is;
+      distance = own.distance;
+      words = own.words;
+    }
 
 loads_it : (files : List (List ℕ)) (pair : TextPair) (is : IsRecognised files pair) → IsLoadBy files is.is.load.record_id (head_of pair)
 loads_it files pair is =
     let r = is.is.load.record_id in
     let here = is.is.load.here in
     let s = is.place in
-    let back : s.file ≡ r.file = sym here.file_is in
-    let number : text_number files r.file r.section ≡ Some pair.section =
-    ap (λ (f : ℕ). text_number files f r.section) here.file_is ∙ ap (λ (i : ℕ). text_number files s.file i) here.section_is
-    ∙ text_number_at files pair.section s is.place_is in
     let inside : IsLoadedIn files s.file r (head_of pair) =
     record { kind_is = here.kind_is; offset_is = here.offset_is; address = is.is.load.address } in
-    let own = subst (λ (f : ℕ). IsLoadedIn files f r (head_of pair)) back inside in
-    record { section_is = number; kind_is = own.kind_is; offset_is = own.offset_is; address = own.address }
+    let own = subst (λ (f : ℕ). IsLoadedIn files f r (head_of pair)) (sym here.file_is) inside in
+    record {
+      section_is = number_is files GotPcrel34 s pair.head pair.section r here is.place_is;
+      kind_is = own.kind_is;
+      offset_is = own.offset_is;
+      address = own.address;
+    }
 
 -- what is recognised is asked for
 pub asked_for : (files : List (List ℕ)) (file : ℕ) (pair : TextPair) → IsRecognisedIn files file pair → AskedOf files file pair
-asked_for files file pair here =
-    let is = here.is in
-    let r = is.is.asked.record_id in
-    let in_files = is.is.asked.here.record_in in
-    let by : IsAskedBy files (record_id r.file (file_at files r.file) r.table r.entry) pair =
-    subst (λ (q : RecordId). IsAskedBy files q pair) (sym (own_record files r in_files)) (asks files pair is) in
-    let own : AskedOf files r.file pair = (r.table, in_files.table_in, (r.entry, in_files.within, by)) in
-    subst (λ (f : ℕ). AskedOf files f pair) (is.is.asked.here.file_is ∙ here.file_is) own
+asked_for files file pair found =
+    let here = found.is.is.asked.here in
+    of_file files file (λ r. IsAskedBy files r pair) found.is.is.asked.record_id here.record_in (here.file_is ∙ found.file_is)
+    (asks files pair found.is)
 
 -- is loaded
 pub loaded_at : (files : List (List ℕ)) (file : ℕ) (pair : TextPair) → IsRecognisedIn files file pair →
     LoadedOf files file (head_of pair)
-loaded_at files file pair here =
-    let is = here.is in
-    let r = is.is.load.record_id in
-    let in_files = is.is.load.here.record_in in
-    let by : IsLoadBy files (record_id r.file (file_at files r.file) r.table r.entry) (head_of pair) =
-    subst (λ (q : RecordId). IsLoadBy files q (head_of pair)) (sym (own_record files r in_files)) (loads_it files pair is) in
-    let own : LoadedOf files r.file (head_of pair) = (r.table, in_files.table_in, (r.entry, in_files.within, by)) in
-    subst (λ (f : ℕ). LoadedOf files f (head_of pair)) (is.is.load.here.file_is ∙ here.file_is) own
+loaded_at files file pair found =
+    let here = found.is.is.load.here in
+    of_file files file (λ r. IsLoadBy files r (head_of pair)) found.is.is.load.record_id here.record_in (here.file_is ∙ found.file_is)
+    (loads_it files pair found.is)
 
 -- and is free
 pub free_of : (files : List (List ℕ)) (pair : TextPair) → IsRecognised files pair → IsFree files pair

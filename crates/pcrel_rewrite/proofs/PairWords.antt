@@ -69,4 +69,5 @@ module _ (bytes : List ℕ) (head tail prefix suffix : ℕ) (prefix_is : prefix 
     pair_passes uses access pair = λ k before.
         let same : pair.uses ≡ uses = one_use word address pair.uses uses (access_here pair) access in
         let near = pair.near in
-        subst (λ (u : Uses). IsPassed u (number_at 4 bytes (head + 8 + 4 * k))) same (pair.between k (omega (arith, near.aligned, near.least)))
+        subst (λ (u : Uses). IsPassed u (number_at 4 bytes (head + 8 + 4 * k))) same
+        (pair.between k (omega (arith, near.aligned, near.least)))

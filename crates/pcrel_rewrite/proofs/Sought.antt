@@ -4,7 +4,6 @@ use Rattle.std.specs.List.{Contains, slice_index_or}
 use Rattle.std.specs.List.Sorted.{IsNonDecreasingBy}
 use Rattle.std.proofs.lemmas.Bool.{cases_lt}
 use Rattle.symbol_table.specs.declared.target.CodePlace.{CodePlace}
-use Rattle.symbol_table.proofs.PlaceOrder.{IsSplit, before_point, after_point}
 use Rattle.pcrel_rewrite.specs.inside.Order.{rank}
 
 -- an element of a rank stands at the point before which all ranks are lower, or behind it
@@ -12,7 +11,9 @@ record IsBehind {X : Type 0} (n : X → ℕ) (t : ℕ) (xs : List X) (next : ℕ
   within : next < length xs
   first : n (slice_index_or xs next x) ≡ t
 
-module _ {X : Type 0} (n : X → ℕ) (t : ℕ) (xs : List X) (next : ℕ) (sorted : IsNonDecreasingBy n xs) (split : IsSplit n t xs next)
+module _ {X : Type 0} (n : X → ℕ) (t : ℕ) (xs : List X) (next : ℕ) (sorted : IsNonDecreasingBy n xs)
+    (before : (k : ℕ) (d : X) → k < next → n (slice_index_or xs k d) < t)
+    (after : (k : ℕ) (d : X) → next ≤ k → k < length xs → t ≤ n (slice_index_or xs k d))
   where
     sought : (x : X) → Contains xs x → n x ≡ t → IsBehind n t xs next x
     sought x held this =
@@ -20,10 +21,10 @@ module _ {X : Type 0} (n : X → ℕ) (t : ℕ) (xs : List X) (next : ℕ) (sort
         let inside : k < length xs = held.1 in
         let here : n (slice_index_or xs k x) ≡ t = ap n held.2 ∙ this in
         elim (cases_lt k next) [
-          | inl less ↦ (let low : n (slice_index_or xs k x) < t = before_point n t xs next split k x less in absurd (omega arith))
+          | inl less ↦ (let low : n (slice_index_or xs k x) < t = before k x less in absurd (omega arith))
           | inr most ↦ (
               let within : next < length xs = omega arith in
-              let above : t ≤ n (slice_index_or xs next x) = after_point n t xs next split next x (omega arith) within in
+              let above : t ≤ n (slice_index_or xs next x) = after next x (omega arith) within in
               let up : n (slice_index_or xs next x) ≤ n (slice_index_or xs k x) = sorted next k x most inside in
               record { within = within; first = omega arith })
         ]

@@ -6,7 +6,6 @@ ghost use Rattle.elf64_records.specs.Sections.{section_bytes, sh_info};
 ghost use Rattle.elf64_records.specs.Symbols.{symbol_count};
 ghost use Rattle.object_set.specs.Files.{file_at};
 ghost use Rattle.object_set.specs.Walks.{IsRecord};
-ghost use Rattle.reloc_fields.specs.Table.{line_of};
 ghost use Rattle.symbol_table.specs.Targets.{definition_of};
 ghost use Rattle.symbol_table.specs.Text.{text_number};
 ghost use Rattle.pcrel_rewrite.specs.Pairs.{is_number};
@@ -17,9 +16,9 @@ ghost use Rattle.pcrel_rewrite.specs.inside.Gathered.{IsAskedBy, IsLoadBy, Gathe
 use crate::text_pairs::TextPair;
 use crate::words::are_pair_words;
 use object_set::RecordId;
-use reloc_fields::{Kind, kind_of};
+use reloc_fields::Kind;
 use std::alloc::{AllocError, Global};
-use symbol_table::{CodePlace, Resolved};
+use symbol_table::{CodePlace, Resolved, is_of_kind};
 
 /// What records ask for.
 #[derive(Drop)]
@@ -28,13 +27,6 @@ pub struct Gathered {
     pub asked: Vec<TextPair>,
     /// Places of loads from slots, of symbols that don't stand for numbers.
     pub loads: Vec<CodePlace>,
-}
-
-/// Whether a relocation's number is that of a kind.
-fn is_of_kind(number: u32, kind: Kind) -> bool
-    ensures { result ≡ (number == (line_of kind).number) }
-{
-    kind_of(number) == Some(kind)
 }
 
 /// Whether what a symbol stands for is a number.

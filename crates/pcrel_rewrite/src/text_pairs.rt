@@ -1,8 +1,9 @@
 // The recognised pairs of a link, and how they are asked for.
-ghost use Rattle.std.specs.Prelude.{◌≡◌, ◌<◌, ◌^◌, ◌&&◌, ◌==◌, ◌↔◌, ℕ, IfOk, IfSome, IfNone, IsTrue};
-ghost use Rattle.std.specs.List.{Contains};
+ghost use Rattle.std.specs.Prelude.{◌≡◌, ◌<◌, ◌≤◌, ◌^◌, ◌&&◌, ◌==◌, ◌↔◌, ℕ, IfOk, IfSome, IfNone, IsTrue, length};
+ghost use Rattle.std.specs.List.{Contains, slice_index_or};
 ghost use Rattle.std.specs.List.Sorted.{IsPermutation, IsNonDecreasingBy};
-ghost use Rattle.pcrel_rewrite.specs.inside.Order.{head_of, tail_of, head_rank, tail_rank};
+ghost use Rattle.pcrel_rewrite.specs.inside.Order.{rank, head_of, tail_of, head_rank, tail_rank};
+ghost use Rattle.pcrel_rewrite.specs.declared.text_pairs.TextPair.{TextPair};
 ghost use Rattle.pcrel_rewrite.specs.TextPairs.{text_pair};
 
 use crate::order::{comes_before, place_order};
@@ -98,6 +99,28 @@ fn sort_tails(pairs: &mut Vec<TextPair>)
     pairs.sort_unstable_by(|p, q| place_order(p.tail_place(), q.tail_place()));
 }
 
+/// How many of pairs in order of their loads have theirs before a place.
+fn heads_before(heads: &[TextPair], place: CodePlace) -> usize
+    requires { IsNonDecreasingBy head_rank heads.now }
+    ensures before { (k : ℕ) (d : TextPair) → k < result →
+        head_rank (slice_index_or heads.now k d) < rank place }
+    ensures after { (k : ℕ) (d : TextPair) → result ≤ k → k < length heads.now →
+        rank place ≤ head_rank (slice_index_or heads.now k d) }
+{
+    heads.partition_point(|p| comes_before(p.head_place(), place))
+}
+
+/// How many of pairs in order of their accesses have theirs before a place.
+fn tails_before(tails: &[TextPair], place: CodePlace) -> usize
+    requires { IsNonDecreasingBy tail_rank tails.now }
+    ensures before { (k : ℕ) (d : TextPair) → k < result →
+        tail_rank (slice_index_or tails.now k d) < rank place }
+    ensures after { (k : ℕ) (d : TextPair) → result ≤ k → k < length tails.now →
+        rank place ≤ tail_rank (slice_index_or tails.now k d) }
+{
+    tails.partition_point(|p| comes_before(p.tail_place(), place))
+}
+
 impl Pairs {
     /// These pairs.
     pub(crate) fn of_list(alloc: Global, pairs: Vec<TextPair>) -> Result<Pairs, AllocError>
@@ -117,10 +140,9 @@ impl Pairs {
             ¬ Contains self.now (text_pair section offset tail)) }
     {
         let place = CodePlace { section, offset };
-        let next = self
-            .heads
-            .partition_point(|p| comes_before(p.head_place(), place));
-        match self.heads.get(next) {
+        let heads = self.heads.as_slice();
+        let next = heads_before(heads, place);
+        match heads.get(next) {
             Some(pair) => {
                 if pair.has_head(place) {
                     Some(pair.tail)
@@ -137,10 +159,9 @@ impl Pairs {
         ensures { IsTrue result ↔ (head : ℕ) × Contains self.now (text_pair section head offset) }
     {
         let place = CodePlace { section, offset };
-        let next = self
-            .tails
-            .partition_point(|p| comes_before(p.tail_place(), place));
-        match self.tails.get(next) {
+        let tails = self.tails.as_slice();
+        let next = tails_before(tails, place);
+        match tails.get(next) {
             Some(pair) => pair.has_tail(place),
             None => false,
         }

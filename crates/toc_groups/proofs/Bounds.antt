@@ -223,7 +223,8 @@ with_case : (slots : List SymbolId) (s : SymbolId) (t : Bool) → length (if t t
 with_case slots s true = omega arith
 with_case slots s false = omega (arith, length-append slots (s ∷ []))
 
-with_slots_most : (files : List (List ℕ)) (slots named : List SymbolId) → length (with_slots files slots named) ≤ length slots + length named
+with_slots_most : (files : List (List ℕ)) (slots named : List SymbolId) →
+    length (with_slots files slots named) ≤ length slots + length named
 with_slots_most files slots [] = omega arith
 with_slots_most files slots (s ∷ named) =
     let this = with_case slots s (list_any (shares_slot files s) slots) in

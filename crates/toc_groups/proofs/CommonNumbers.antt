@@ -15,9 +15,8 @@ use Rattle.symbol_table.specs.inside.Commons.{common_list}
 use Rattle.symbol_table.proofs.Distinct.{same_bytes}
 use Rattle.symbol_table.proofs.NumberedCommons.{commons_more}
 use Rattle.symbol_table.proofs.Steps.{unseen}
-use Rattle.toc_groups.proofs.Apart.{take_begun}
-use Rattle.toc_groups.proofs.Laying.{Begins}
 use Rattle.toc_groups.proofs.Positions.{any-from_none, at_none, found_passes}
+use Rattle.toc_groups.proofs.Begins.{take_begun, Begins}
 
 no_common : (symbols : List External) (name : List ℕ) (c : CommonSize) → candidates_of symbols name ≡ no_candidates →
     resolution_of (candidates_of symbols name) ≡ resolution.Common c → ⊥

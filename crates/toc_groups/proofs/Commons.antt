@@ -57,7 +57,8 @@ symbols_in : (files : List (List ℕ)) (file n : ℕ) → set_refusal files ≡ 
 symbols_in files file zero whole within few = tt
 symbols_in files file (suc n) whole within few =
     let b = file_at files file in
-    all_append IsFitCommon (items_in external_walk file b n) (external_at file b n) (symbols_in files file n whole within (omega (arith, few)))
+    all_append IsFitCommon (items_in external_walk file b n) (external_at file b n)
+    (symbols_in files file n whole within (omega (arith, few)))
     (symbol_case files file n (is_local b n) whole within (omega (arith, few)) refl)
 
 symbols_before : (files : List (List ℕ)) (n : ℕ) → set_refusal files ≡ None → n ≤ length files →
@@ -79,7 +80,9 @@ and_false false = refl
 bearing_case : (name : List ℕ) (s : External) (xs : List External) (t role : Bool) → IsFitCommon s → AllByRecursion HasFitAlign xs →
     is_common_role s.role ≡ role → (bytes_eq name s.name && role) ≡ t → AllByRecursion HasFitAlign (if t then s ∷ xs else xs)
 bearing_case name s xs true true fit rest is test = (fit is, rest)
-bearing_case name s xs true false fit rest is test = (let same : (bytes_eq name s.name && false) ≡ false = and_false (bytes_eq name s.name) in cc)
+bearing_case name s xs true false fit rest is test =
+    let same : (bytes_eq name s.name && false) ≡ false = and_false (bytes_eq name s.name) in
+    cc
 bearing_case name s xs false role fit rest is test = rest
 
 bearing_fit : (name : List ℕ) (xs : List External) → AllByRecursion IsFitCommon xs →
@@ -99,7 +102,8 @@ largest_fit : (s : External) (xs : List External) → HasFitAlign s → AllByRec
 largest_fit s [] this rest = (let is : s.value ≡ max s.value 0 = omega arith in subst IsFitAlign is this)
 largest_fit s (t ∷ xs) this rest = max_case s.value (largest (t ∷ xs)).align this (largest_fit t xs rest.0 rest.1)
 
-common_case : (xs : List External) (common : CommonSize) → AllByRecursion HasFitAlign xs → common_of xs ≡ Some common → IsFitAlign common.align
+common_case : (xs : List External) (common : CommonSize) → AllByRecursion HasFitAlign xs → common_of xs ≡ Some common →
+    IsFitAlign common.align
 common_case [] common fit is = cc
 common_case (s ∷ xs) common fit is =
     let same : largest (s ∷ xs) ≡ common = cc in

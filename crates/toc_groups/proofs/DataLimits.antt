@@ -1,5 +1,5 @@
 -- Where data, its bases and text lie at most.
-use Rattle.std.proofs.Common.{ℕ, ◌≡◌, ◌<◌, ◌≤◌, ◌+◌, ◌-◌, ◌%◌, ◌⊎◌, inl, inr, Bool, true, false, ◌==◌, List, length, take, get_or, nat_lt, Some, None, ap, refl, arith, if◌then◌else◌, ◌++◌}
+use Rattle.std.proofs.Common.{ℕ, ◌≡◌, ◌<◌, ◌≤◌, ◌+◌, ◌%◌, ◌⊎◌, inl, inr, Bool, true, false, ◌==◌, List, length, take, get_or, None, ap, refl, arith, if◌then◌else◌, ◌++◌}
 use Rattle.std.proofs.lemmas.Bool.{cases_lt}
 use Rattle.std.proofs.lemmas.Bool.Decides.{nat_tests}
 use Rattle.std.proofs.lemmas.List.FromFn.{get_or-map-range_with_len}
@@ -8,7 +8,6 @@ use Rattle.elf64_records.specs.FileHeader.{e_shnum}
 use Rattle.layout_rounds.specs.Shapes.{aligned}
 use Rattle.layout_rounds.proofs.Aligned.{aligned_most}
 use Rattle.elf64_records.specs.Sections.{sh_size}
-use Rattle.object_set.specs.declared.refusal.Refusal.TheVariants.{DataTooBig}
 use Rattle.object_set.specs.declared.sort.Sort.{Sort}
 use Rattle.object_set.specs.declared.sort.Sort.TheVariants.{Text, Zeroed, Toc, Writable, ReadOnly, Dropped}
 use Rattle.object_set.specs.Files.{file_at}
@@ -22,19 +21,31 @@ use Rattle.toc_groups.specs.Runs.{placed, run_end, no_piece, IsFitExtent}
 use Rattle.toc_groups.specs.Sections.{sort_walk, section_extent, sections_of, sections_before, commons_of}
 use Rattle.toc_groups.specs.Groups.{group_number, group_count, group_at, group_extent, group_extents, tocs_of}
 use Rattle.toc_groups.specs.Data.{read_only_end, writable_start, groups_end, writable_end, zeroed_end, commons_end, data_end, text_start, group_start, base_of, toc_before, address_by_sort, piece_address, data_refusal}
-use Rattle.toc_groups.specs.Parts.{Part, IsPieceOf, IsPart, Takes}
+use Rattle.toc_groups.specs.Parts.{Part, IsPieceOf, IsPart, Takes, is_laid_sort, start_of, size_of}
 use Rattle.toc_groups.specs.PlacedData.{IsInSegment, IsPlacedData}
-use Rattle.toc_groups.specs.Parts.{is_laid_sort, start_of, size_of}
 use Rattle.toc_groups.specs.Parts.Part.{of_section, of_slot, of_common}
-use Rattle.toc_groups.proofs.Apart.{whole_size, group_in, group_tocs_fit, sections_fit, section_in, lies, sort_lies, has_room}
+use Rattle.toc_groups.proofs.Regions.{has_room, lies, sort_lies}
 use Rattle.toc_groups.proofs.Commons.{commons_fit}
-use Rattle.toc_groups.proofs.Laying.{low_begins, number_begins, take_begins, fit_section, fit_at, aligned_least, run_grows}
-use Rattle.toc_groups.proofs.Placing.{number_below, groups_fit, tocs_there, slots_there, toc_begins}
-use Rattle.toc_groups.proofs.Rooms.{data_low}
+use Rattle.toc_groups.proofs.Laying.{low_begins, fit_section, fit_at, aligned_least, run_grows}
+use Rattle.toc_groups.proofs.Placing.{tocs_there, slots_there, toc_begins}
+use Rattle.toc_groups.proofs.Rooms.{data_low, end_low}
 use Rattle.toc_groups.proofs.Running.{in_order, page_low}
+use Rattle.toc_groups.proofs.GroupOrder.{whole_size, group_in, group_tocs_fit}
+use Rattle.toc_groups.proofs.SectionOrder.{sections_fit, section_in}
+use Rattle.toc_groups.proofs.Begins.{number_begins, take_begins}
+use Rattle.toc_groups.proofs.GroupFiles.{number_below}
+use Rattle.toc_groups.proofs.GroupPlaces.{groups_fit}
+
+-- pages begin at multiples of their size
+pub page_whole : (n : ℕ) → aligned n 0x10000 % 0x10000 ≡ 0
+page_whole n = omega arith
 
 most_placed : (end n : ℕ) (piece : Extent) → IsFitExtent piece → end ≤ n → placed end piece < n + 0x10000
 most_placed end n piece fit low = omega (arith, aligned_most end piece.align, fit.most, low)
+
+-- the part that is only read begins where the image does
+pub image_before : (files : List (List ℕ)) → set_refusal files ≡ None → IMAGE_START ≤ read_only_end files
+image_before files whole = run_grows (sections_of files ReadOnly) IMAGE_START (sections_fit files ReadOnly whole refl)
 
 module _ (files : List (List ℕ)) (span : ℕ) (whole : set_refusal files ≡ None) (fits : data_refusal files span ≡ None) where
   -- a group, however small, starts before the limit and a page
@@ -51,12 +62,14 @@ module _ (files : List (List ℕ)) (span : ℕ) (whole : set_refusal files ≡ N
   pub base_low : (file : ℕ) → file < length files → base_of files span file < 0x60000000
   base_low file within = omega (arith, group_low (group_number files span file) (number_below files span file within))
 
-  sort_low : (sort : Sort) (start all : ℕ) (file i : ℕ) → is_kept_sort sort ≡ true → file < length files → i < e_shnum (file_at files file) →
+  sort_low : (sort : Sort) (start all : ℕ) (file i : ℕ) → is_kept_sort sort ≡ true → file < length files →
+      i < e_shnum (file_at files file) →
       sort_of (file_at files file) i ≡ sort → all ≡ run_end start (sections_of files sort) → all ≤ commons_end files span →
       placed (run_end start (sections_before files sort file i)) (section_extent (file_at files file) i) < 0x60000000
   sort_low sort start all file i kept within inside is end low =
       let begins = number_begins (sort_walk sort) files file i within (omega (arith, inside)) in
-      let before = low_begins start (sections_before files sort file i) (sections_of files sort) begins (sections_fit files sort whole kept) in
+      let before = low_begins start (sections_before files sort file i) (sections_of files sort) begins
+      (sections_fit files sort whole kept) in
       let fit = fit_section files file i sort whole within inside kept is in
       omega (
         arith,
@@ -95,7 +108,8 @@ module _ (files : List (List ℕ)) (span : ℕ) (whole : set_refusal files ≡ N
   by_sort Toc file i within inside is = toc_low file i within inside is
   by_sort Writable file i within inside is =
       let order = in_order files span whole in
-      sort_low Writable (groups_end files span) (writable_end files span) file i refl within inside is refl (omega (arith, order.zeroed, order.commons))
+      sort_low Writable (groups_end files span) (writable_end files span) file i refl within inside is refl
+      (omega (arith, order.zeroed, order.commons))
   by_sort Zeroed file i within inside is =
       let order = in_order files span whole in
       sort_low Zeroed (writable_end files span) (zeroed_end files span) file i refl within inside is refl (omega (arith, order.commons))
@@ -123,27 +137,41 @@ module _ (files : List (List ℕ)) (span : ℕ) (whole : set_refusal files ≡ N
 
   written_case : (commons start read_only : ℕ) (none : Bool) → (commons == start) ≡ none → start < commons →
       commons ≤ (if none then read_only else commons)
-  written_case commons start read_only true is some = (let same : commons ≡ start = grind (arith, nat_tests, is) in absurd (omega (arith, same, some)))
+  written_case commons start read_only true is some =
+      let same : commons ≡ start = grind (arith, nat_tests, is) in
+      absurd (omega (arith, same, some))
   written_case commons start read_only false is some = omega arith
 
   text_from : data_end files span ≤ text_start files span
   text_from = aligned_least (data_end files span) PAGE (omega arith)
 
-  big_case : (big : Bool) → (if big then Some DataTooBig else None) ≡ None → big ≡ false
-  big_case true is = cc
-  big_case false is = refl
+  -- data ends no earlier than its parts that aren't empty
+  read_only_least : read_only_end files ≤ data_end files span
+  read_only_least =
+      let order = in_order files span whole in
+      end_case (commons_end files span) (writable_start files) (read_only_end files) (commons_end files span == writable_start files) refl
+      (omega (arith, order.groups, order.writable, order.zeroed, order.commons)) order.read_only
 
-  end_low : data_end files span ≤ 0x40000000
-  end_low =
-      let small = big_case (nat_lt 0x30000000 (data_end files span - 0x10000000)) fits in
-      grind (arith, nat_tests, small)
+  commons_least : writable_start files < commons_end files span → commons_end files span ≤ data_end files span
+  commons_least some =
+      written_case (commons_end files span) (writable_start files) (read_only_end files) (commons_end files span == writable_start files)
+      refl some
+
+  -- so they end before text
+  pub read_only_before_text : read_only_end files ≤ text_start files span
+  read_only_before_text = omega (arith, read_only_least, text_from)
+
+  pub commons_before_text : writable_start files < commons_end files span → commons_end files span ≤ text_start files span
+  commons_before_text some = omega (arith, commons_least some, text_from)
 
   -- a part that isn't empty lies in the one segment or in the other
   abbrev Range : ℕ → ℕ → Type 0
   Range start size =
-      ((IMAGE_START ≤ start) × (start + size ≤ read_only_end files)) ⊎ ((writable_start files ≤ start) × (start + size ≤ commons_end files span))
+      ((IMAGE_START ≤ start) × (start + size ≤ read_only_end files))
+      ⊎ ((writable_start files ≤ start) × (start + size ≤ commons_end files span))
 
-  section_range : (sort : Sort) (file i : ℕ) → file < length files → i < e_shnum (file_at files file) → sort_of (file_at files file) i ≡ sort →
+  section_range : (sort : Sort) (file i : ℕ) → file < length files → i < e_shnum (file_at files file) →
+      sort_of (file_at files file) i ≡ sort →
       is_laid_sort sort ≡ true → 0 < sh_size (file_at files file) i →
       Range (address_by_sort files span file i (section_extent (file_at files file) i) sort) (sh_size (file_at files file) i)
   section_range ReadOnly file i within inside is laid some =
@@ -176,42 +204,31 @@ module _ (files : List (List ℕ)) (span : ℕ) (whole : set_refusal files ≡ N
       inr (omega (arith, this.from, order.groups, order.writable, order.zeroed), omega (arith, this.below))
 
   in_range : (p : Part) (a : ℕ) → Takes files span p a → Range (start_of files span p) (size_of files span p) → IsInSegment files span a
-  in_range p a takes (inl range) =
-      let order = in_order files span whole in
-      let least = end_case (commons_end files span) (writable_start files) (read_only_end files) (commons_end files span == writable_start files) refl
-      (omega (arith, order.groups, order.writable, order.zeroed, order.commons)) order.read_only in
-      record {
-        from = omega (arith, range.0, takes.covers.from);
-        limit = omega (arith, range.1, takes.covers.below, least, end_low);
-        before_text = omega (arith, range.1, takes.covers.below, least, text_from);
-        segment = inl (omega (arith, range.1, takes.covers.below));
-      }
+  in_range p a takes (inl range) = record {
+    from = omega (arith, range.0, takes.covers.from);
+    limit = omega (arith, range.1, takes.covers.below, read_only_least, end_low files span fits);
+    before_text = omega (arith, range.1, takes.covers.below, read_only_before_text);
+    segment = inl (omega (arith, range.1, takes.covers.below));
+  }
   in_range p a takes (inr range) =
       let order = in_order files span whole in
-      let grown = run_grows (sections_of files ReadOnly) IMAGE_START (sections_fit files ReadOnly whole refl) in
-      let least = written_case (commons_end files span) (writable_start files) (read_only_end files)
-      (commons_end files span == writable_start files) refl (omega (arith, range.0, range.1, takes.covers.from, takes.covers.below)) in
+      let some : writable_start files < commons_end files span =
+      omega (arith, range.0, range.1, takes.covers.from, takes.covers.below) in
       record {
-        from = omega (arith, range.0, takes.covers.from, order.read_only, grown);
-        limit = omega (arith, range.1, takes.covers.below, least, end_low);
-        before_text = omega (arith, range.1, takes.covers.below, least, text_from);
+        from = omega (arith, range.0, takes.covers.from, order.read_only, image_before files whole);
+        limit = omega (arith, range.1, takes.covers.below, commons_least some, end_low files span fits);
+        before_text = omega (arith, range.1, takes.covers.below, commons_before_text some);
         segment = inr (omega (arith, range.0, takes.covers.from), omega (arith, range.1, takes.covers.below));
       }
-
-  page_whole : (n : ℕ) → aligned n 0x10000 % 0x10000 ≡ 0
-  page_whole n = omega arith
 
   pub placed_data : IsPlacedData files span
   placed_data =
       let order = in_order files span whole in
-      let grown = run_grows (sections_of files ReadOnly) IMAGE_START (sections_fit files ReadOnly whole refl) in
-      let least = end_case (commons_end files span) (writable_start files) (read_only_end files) (commons_end files span == writable_start files) refl
-      (omega (arith, order.groups, order.writable, order.zeroed, order.commons)) order.read_only in
       record {
         segments = order.read_only;
         text_page = page_whole (data_end files span);
-        text_from = omega (arith, grown, least, text_from);
-        text_limit = page_low (data_end files span) end_low;
+        text_from = omega (arith, image_before files whole, read_only_before_text);
+        text_limit = page_low (data_end files span) (end_low files span fits);
         parts = λ p a takes. in_range p a takes (part_range p takes.is (has_room files span p a takes));
         pieces = piece_low;
         bases = base_low;

@@ -26,9 +26,9 @@ use Rattle.symbol_table.specs.laws.Sections.{record_about}
 use Rattle.toc_groups.specs.Data.{section_address, data_refusal}
 use Rattle.toc_groups.specs.Groups.{group_count}
 use Rattle.toc_groups.specs.Parts.{Covers, slot_place}
-use Rattle.toc_groups.specs.Plans.{data_ends}
+use Rattle.toc_groups.specs.Plans.{LaidData, data_ends}
 use Rattle.toc_groups.specs.Values.{symbol_address, section_place, field_address, record_value}
-use Rattle.toc_groups.specs.Contents.{HoldsBytes, HoldsData, IsStored, IsDataField, section_start, section_size, field_bytes}
+use Rattle.toc_groups.specs.Contents.{AreOfFiles, HoldsBytes, HoldsData, IsStored, IsDataField, section_start, section_size, field_bytes}
 use Rattle.toc_groups.specs.inside.Memory.{Puts, HasRange}
 use Rattle.toc_groups.specs.inside.Filled.{RecordFirst, AreSlotted, AreFilled}
 use Rattle.toc_groups.proofs.Filling.{section, one_stored, slot_beside}
@@ -59,6 +59,15 @@ module _ (files : List (List ℕ)) (span : ℕ) (text : List ℕ) where
     pub records : records_refusal files ≡ None
     pub fits : data_refusal files span ≡ None
 
+  -- the files of a job are sound
+  pub sound_files : (set : List (List ℕ)) (plan : LaidData) → set ≡ files → set_refusal set ≡ None → AreOfFiles files plan text →
+      plan.span ≡ span → AreSound
+  sound_files set plan same whole job is = record {
+    whole = ap set_refusal (sym same) ∙ whole;
+    records = job.records;
+    fits = subst (λ (n : ℕ). data_refusal files n ≡ None) is job.plan_is.fits;
+  }
+
   abbrev pub offset_of : RecordId → ℕ
   offset_of r = (rela_of (file_at files r.file) r.table r.entry).offset
 
@@ -81,10 +90,12 @@ module _ (files : List (List ℕ)) (span : ℕ) (text : List ℕ) where
       let within = (field_sound r kind sound is).within in
       let stored = home_stored r kind sound is in
       let range = low_range files span (section_start files span (home r)) (section_size files (home r)) sound.whole sound.fits
-      (stored_range files span r.file r.section sound.whole stored.there.file_in stored.there.within is.sort (omega (arith, within, is.fills))) in
+      (stored_range files span r.file r.section sound.whole stored.there.file_in stored.there.within is.sort
+      (omega (arith, within, is.fills))) in
       let other : is_text b r.section ≡ false = no_text (sort_of b r.section) is.sort in
       let place : section_place files span text r.file r.section ≡ section_start files span (home r) =
-      ap (λ (t : Bool). if t then slice_index text (text_index files r.file r.section) else section_address files span r.file b r.section) other in
+      ap (λ (t : Bool). if t then slice_index text (text_index files r.file r.section) else section_address files span r.file b r.section)
+      other in
       let sum : (section_start files span (home r) + offset_of r) % 2 ^ 64 ≡ section_start files span (home r) + offset_of r =
       omega (arith, within, range) in
       ap (λ (x : ℕ). (x + offset_of r) % 2 ^ 64) place ∙ sum
@@ -94,7 +105,8 @@ module _ (files : List (List ℕ)) (span : ℕ) (text : List ℕ) where
   field_long r kind =
       let b = file_at files r.file in
       length-bytes_low_first 0 (line_of kind).width
-      (filled (line_of kind).filling (number_at (line_of kind).width (section_bytes b r.section) (offset_of r)) (record_value files span text r kind))
+      (filled (line_of kind).filling (number_at (line_of kind).width (section_bytes b r.section) (offset_of r))
+      (record_value files span text r kind))
 
   abbrev field_covers : RecordId → Kind → ℕ → Type 0
   field_covers r kind a = Covers (field_address files span text r) (length (field_bytes files span text r kind)) a
@@ -166,7 +178,8 @@ module _ (files : List (List ℕ)) (span : ℕ) (text : List ℕ) where
   same_record : (q r : RecordId) → IsRecord files q → IsRecord files r → q.file ≡ r.file → q.table ≡ r.table → q.entry ≡ r.entry → q ≡ r
   same_record q r is is' file table entry =
       let about : q.section ≡ r.section =
-      is.section_is ∙ ap (λ (f : ℕ). sh_info (file_at files f) q.table) file ∙ ap (sh_info (file_at files r.file)) table ∙ sym is'.section_is in
+      is.section_is ∙ ap (λ (f : ℕ). sh_info (file_at files f) q.table) file ∙ ap (sh_info (file_at files r.file)) table
+      ∙ sym is'.section_is in
       let made : ℕ → ℕ → ℕ → ℕ → RecordId = λ f t e s. record { file = f; table = t; entry = e; section = s } in
       ap (λ (f : ℕ). made f q.table q.entry q.section) file ∙ ap (λ (t : ℕ). made r.file t q.entry q.section) table
       ∙ ap (λ (e : ℕ). made r.file r.table e q.section) entry ∙ ap (made r.file r.table r.entry) about
@@ -219,7 +232,8 @@ module _ (files : List (List ℕ)) (span : ℕ) (text : List ℕ) where
             puts.outside a (λ covers. slot_beside files span h m a s (home r) sound.whole is' stored
             (record { from = omega arith; below = omega (arith, within, long) }) (in_home r kind a sound is covers))
             ∙ before.slots h m s is' n within);
-        zeros = λ a none free. puts.outside a (λ covers. none (home r) stored (in_home r kind a sound is covers)) ∙ before.zeros a none free;
+        zeros = λ a none free. puts.outside a (λ covers. none (home r) stored (in_home r kind a sound is covers))
+            ∙ before.zeros a none free;
       }
 
   -- the same of another place before which the same fields come
@@ -273,7 +287,8 @@ module _ (files : List (List ℕ)) (span : ℕ) (text : List ℕ) where
       filled_move file i (record_count (file_at files file) i) file (i + 1) 0 byte (λ q kind is first. in_table file i q is.there first)
       (λ q kind is first. next_table file i q first) before
 
-  in_file : (file : ℕ) (q : RecordId) → IsRecord files q → RecordFirst (file + 1) 0 0 q → RecordFirst file (e_shnum (file_at files file)) 0 q
+  in_file : (file : ℕ) (q : RecordId) → IsRecord files q → RecordFirst (file + 1) 0 0 q →
+      RecordFirst file (e_shnum (file_at files file)) 0 q
   in_file file q is (inl less) = elim (cases_lt q.file file) [
     | inl before ↦ inl before
     | inr most ↦ (

@@ -33,7 +33,12 @@ eight = elim [ kind.None ↦ λ some other. absurd (omega (arith, some)) | _ ↦
 
 -- one that has none holds each value
 pub no_width : (v : ℤ) (k : Kind) → (line_of k).width ≡ 0 → passes (line_of k).check v ≡ true
-no_width v = elim [ kind.None ↦ λ none. refl | kind.Tocsave ↦ λ none. refl | kind.PcrelOpt ↦ λ none. refl | _ ↦ λ none. absurd (omega (arith, none)) ]
+no_width v = elim [
+  | kind.None ↦ λ none. refl
+  | kind.Tocsave ↦ λ none. refl
+  | kind.PcrelOpt ↦ λ none. refl
+  | _ ↦ λ none. absurd (omega (arith, none))
+]
 
 -- a filled field as a number
 pub number_filled : (k : Kind) (bytes : List ℕ) (offset width old new : ℕ) (x : ℤ) → old < 2 ^ 64 → new < 2 ^ 64 →
@@ -114,11 +119,13 @@ module _ (files : List (List ℕ)) (span : ℕ) (text : List ℕ) where
       none_case r (kind_numbered (rela_of (file_at files r.file) r.table r.entry).kind) refl is sort none
 
   -- a record that fills nothing in data overflows nowhere
-  pub none_overflows : (r : RecordId) → IsRecord files r → ((k : Kind) → IsDataField files r k → ⊥) → data_overflow_at files span text r ≡ None
+  pub none_overflows : (r : RecordId) → IsRecord files r → ((k : Kind) → IsDataField files r k → ⊥) →
+      data_overflow_at files span text r ≡ None
   unfolding data_overflow_at
   none_overflows r is none = sort_case r (is_data_sort (sort_of (file_at files r.file) r.section)) refl is none
 
-  field_overflow : (r : RecordId) (k : Kind) → IsDataField files r k → data_overflow_at files span text r ≡ kind_overflow files span text r (Some k)
+  field_overflow : (r : RecordId) (k : Kind) → IsDataField files r k →
+      data_overflow_at files span text r ≡ kind_overflow files span text r (Some k)
   unfolding data_overflow_at
   field_overflow r k is =
       ap (λ (t : Bool). if t then record_overflow files span text r else None) is.sort ∙ ap (kind_overflow files span text r) is.kind_is

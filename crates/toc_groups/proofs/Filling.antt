@@ -148,7 +148,8 @@ module _ (files : List (List ℕ)) (span : ℕ) where
     sections = λ t k stored first within. elim (section_or file i t first) [
       | inl earlier ↦ (
           let a = section_start files span t + k in
-          let here : Covers (section_start files span t) (section_size files t) a = record { from = omega arith; below = omega (arith, within) } in
+          let here : Covers (section_start files span t) (section_size files t) a =
+          record { from = omega arith; below = omega (arith, within) } in
           puts.outside a (λ covers. (
           let there : Covers (section_start files span (section file i)) (section_size files (section file i)) a =
           record { from = covers.from; below = omega (arith, covers.below, long) } in
@@ -242,7 +243,8 @@ module _ (files : List (List ℕ)) (span : ℕ) where
         Puts old (slot_place files span g k) (little_bytes 8 (symbol_address files span text s.file s.symbol)) new →
         AreSlotted files span text g k old → AreSlotted files span text g (k + 1) new
     slot_more g k s old new whole is puts before =
-        let slot : (a : ℕ) → Covers (slot_place files span g k) (length (little_bytes 8 (symbol_address files span text s.file s.symbol))) a →
+        let slot : (a : ℕ) → Covers (slot_place files span g k) (length (little_bytes 8 (symbol_address files span text s.file s.symbol)))
+        a →
         Covers (slot_place files span g k) 8 a =
         λ a covers. record { from = covers.from; below = omega (arith, covers.below, slot_long s) } in
         record {
@@ -259,10 +261,10 @@ module _ (files : List (List ℕ)) (span : ℕ) where
                 other_slot g k h m earlier same.0 same.1)) ∙ before.slots h m t is' earlier n within)
             | inr this ↦ (
                 let same : t ≡ s = same_symbol h m g k t s is' is this.0 this.1 in
-                let P : SymbolId → Type 0 = λ u.
-                HoldsBytes new (slot_place files span h m) (little_bytes 8 (symbol_address files span text u.file u.symbol)) in
-                let Q : ℕ → ℕ → Type 0 = λ i j.
-                HoldsBytes new (slot_place files span i j) (little_bytes 8 (symbol_address files span text s.file s.symbol)) in
+                let P : SymbolId → Type 0 =
+                λ u. HoldsBytes new (slot_place files span h m) (little_bytes 8 (symbol_address files span text u.file u.symbol)) in
+                let Q : ℕ → ℕ → Type 0 =
+                λ i j. HoldsBytes new (slot_place files span i j) (little_bytes 8 (symbol_address files span text s.file s.symbol)) in
                 subst P (sym same) (subst (λ (i : ℕ). Q i m) (sym this.0) (subst (Q g) (sym this.1) puts.inside)))
           ];
           zeros = λ a none free.

@@ -1,10 +1,10 @@
 -- Runs grow with each piece, and what passes the end of data stays past it.
-use Rattle.std.proofs.Common.{ℕ, zero, suc, ◌≡◌, ◌<◌, ◌≤◌, ◌+◌, ◌-◌, ◌%◌, Bool, true, false, ◌==◌, List, [], ◌∷◌, ◌++◌, length, take, drop, map, get_or}
+use Rattle.std.proofs.Common.{ℕ, zero, suc, ◌≡◌, ◌<◌, ◌≤◌, ◌+◌, ◌-◌, ◌%◌, Bool, true, false, ◌==◌, List, [], ◌∷◌, ◌++◌, length, take, map, get_or}
 use Rattle.std.proofs.Common.{Some, None, if◌then◌else◌, inl, inr, ap, sym, subst, ◌∙◌, refl, arith, append_assoc}
 use Rattle.std.specs.List.{AllByRecursion, range_with_len}
 use Rattle.std.proofs.lemmas.Bool.{cases_lt}
 use Rattle.std.proofs.lemmas.Bool.Decides.{nat_tests}
-use Rattle.std.proofs.lemmas.List.{append-nil, take_more, take-append-drop}
+use Rattle.std.proofs.lemmas.List.{take_more}
 use Rattle.std.proofs.lemmas.List.FromFn.{map-range_with_len_more}
 use Rattle.std.proofs.lemmas.Nat.{div-add-mod'}
 use Rattle.elf64_records.specs.FileHeader.{e_shnum}
@@ -15,7 +15,7 @@ use Rattle.object_set.specs.declared.sort.Sort.TheVariants.{Text, Zeroed, Toc, W
 use Rattle.object_set.specs.Files.{file_at}
 use Rattle.object_set.specs.Refusals.{set_refusal}
 use Rattle.object_set.specs.Sections.{sort_of, is_kept_sort}
-use Rattle.object_set.specs.Walks.{Walk, items_in, items_before, all_items}
+use Rattle.object_set.specs.Walks.{items_in, items_before}
 use Rattle.object_set.specs.laws.Fit.{file_fit, section_fit}
 use Rattle.layout_rounds.specs.Shapes.{aligned}
 use Rattle.layout_rounds.proofs.Aligned.{power_pos}
@@ -24,7 +24,8 @@ use Rattle.toc_groups.specs.declared.extents.TheConstants.{DATA_END}
 use Rattle.toc_groups.specs.Runs.{placed, behind, run_end, run_place, no_piece, IsFitExtent}
 use Rattle.toc_groups.specs.Sections.{same_sort, section_extent, extent_at, sort_walk, sections_of}
 use Rattle.toc_groups.specs.inside.Limits.{past_limit}
-use Rattle.toc_groups.proofs.Every.{all_append}
+use Rattle.toc_groups.proofs.Begins.{Begins, in_all, before_all, take_begins}
+use Rattle.toc_groups.proofs.Every.{all_append, all_right}
 use Rattle.toc_groups.proofs.Runs.{run_end-append}
 
 -- ---- runs grow
@@ -77,80 +78,7 @@ pub past_more : (start : ℕ) (xs ys : List Extent) (r : Refusal) → AllByRecur
     past_limit (run_end start xs) ≡ Some r → past_limit (run_end start (xs ++ ys)) ≡ Some r
 past_more start xs ys r fit is = past_later (run_end start xs) (run_end start (xs ++ ys)) r (prefix_low start xs ys fit) is
 
--- ---- walks over sections
-
-pub all_right : {X : Type 0} (P : X → Type 0) (xs ys : List X) → AllByRecursion P (xs ++ ys) → AllByRecursion P ys
-all_right P [] ys are = are
-all_right P (x ∷ xs) ys are = all_right P xs ys are.1
-
--- a list and what comes behind it
-pub record Begins {X : Type 0} (xs zs : List X) : Type 0 where
-  pub rest : List X
-  pub is : zs ≡ xs ++ rest
-
-pub begins_more : {X : Type 0} (xs ys zs : List X) → Begins (xs ++ ys) zs → Begins xs zs
-begins_more xs ys zs begins = record { rest = ys ++ begins.rest; is = begins.is ∙ append_assoc xs ys begins.rest }
-
-module _ {X : Type 0} (w : Walk X) (files : List (List ℕ)) where
-  pub in_begins : (file n m : ℕ) → Begins (items_in w file (file_at files file) n) (items_in w file (file_at files file) (n + m))
-  in_begins file n zero =
-      let e : n ≡ n + 0 = omega arith in
-      record {
-        rest = [];
-        is = ap (items_in w file (file_at files file)) (sym e) ∙ sym (append-nil (items_in w file (file_at files file) n));
-      }
-  in_begins file n (suc m) =
-      let b = file_at files file in
-      let before = in_begins file n m in
-      let e : suc (n + m) ≡ n + suc m = omega arith in
-      record {
-        rest = before.rest ++ w.items file b (n + m);
-        is = ap (items_in w file b) (sym e) ∙ ap (λ (l : List X). l ++ w.items file b (n + m)) before.is
-            ∙ append_assoc (items_in w file b n) before.rest (w.items file b (n + m));
-      }
-
-  pub before_begins : (n m : ℕ) → Begins (items_before w files n) (items_before w files (n + m))
-  before_begins n zero =
-      let e : n ≡ n + 0 = omega arith in
-      record { rest = []; is = ap (items_before w files) (sym e) ∙ sym (append-nil (items_before w files n)) }
-  before_begins n (suc m) =
-      let before = before_begins n m in
-      let e : suc (n + m) ≡ n + suc m = omega arith in
-      let last = items_in w (n + m) (file_at files (n + m)) (w.count (file_at files (n + m))) in
-      record {
-        rest = before.rest ++ last;
-        is = ap (items_before w files) (sym e) ∙ ap (λ (l : List X). l ++ last) before.is
-            ∙ append_assoc (items_before w files n) before.rest last;
-      }
-
-  pub in_all : (file n : ℕ) → n ≤ w.count (file_at files file) →
-      Begins (items_in w file (file_at files file) n) (items_in w file (file_at files file) (w.count (file_at files file)))
-  in_all file n few =
-      let count = w.count (file_at files file) in
-      let e : n + (count - n) ≡ count = omega (arith, few) in
-      subst (λ (k : ℕ). Begins (items_in w file (file_at files file) n) (items_in w file (file_at files file) k)) e
-      (in_begins file n (count - n))
-
-  pub before_all : (n : ℕ) → n ≤ length files → Begins (items_before w files n) (all_items w files)
-  before_all n few =
-      let e : n + (length files - n) ≡ length files = omega (arith, few) in
-      subst (λ (k : ℕ). Begins (items_before w files n) (items_before w files k)) e (before_begins n (length files - n))
-
-  -- what comes before a number of a file
-  pub number_begins : (file n : ℕ) → file < length files → n ≤ w.count (file_at files file) →
-      Begins (items_before w files file ++ items_in w file (file_at files file) n) (all_items w files)
-  number_begins file n within few =
-      let b = file_at files file in
-      let here = in_all file n few in
-      let after = before_all (suc file) (omega (arith, within)) in
-      record {
-        rest = here.rest ++ after.rest;
-        is = after.is ∙ ap (λ (l : List X). (items_before w files file ++ l) ++ after.rest) here.is
-            ∙ ap (λ (l : List X). l ++ after.rest)
-            (sym (append_assoc (items_before w files file) (items_in w file b n) here.rest))
-            ∙ append_assoc (items_before w files file ++ items_in w file b n) here.rest after.rest;
-      }
-
+-- ---- sections that fit
 -- two sorts that are the same
 pub sort_is : (s t : Sort) → same_sort s t ≡ true → s ≡ t
 sort_is Text Text is = refl
@@ -228,9 +156,6 @@ pub default_same : (pieces : List Extent) (k : ℕ) (d e : Extent) → k < lengt
 default_same [] k d e within = absurd (omega (arith, within))
 default_same (x ∷ xs) zero d e within = refl
 default_same (x ∷ xs) (suc k) d e within = default_same xs k d e (omega (arith, within))
-
-pub take_begins : (pieces : List Extent) (k : ℕ) → Begins (take k pieces) pieces
-take_begins pieces k = record { rest = drop k pieces; is = sym (take-append-drop k pieces) }
 
 -- a section more of a file, and a file more
 module _ (sort : Sort) (files : List (List ℕ)) where

@@ -156,13 +156,15 @@ module _ (files : List (List ℕ)) (span : ℕ) (text : List ℕ) (sound : AreSo
     has = record { file_is = refl; section_is = about; covers = has.1 };
   }
 
-  field_kind : (s : SectionId) (n : ℕ) (r : RecordId) (kind : Kind) (o : Option Kind) → IsDataField files r kind → HasByte files r kind s n →
+  field_kind : (s : SectionId) (n : ℕ) (r : RecordId) (kind : Kind) (o : Option Kind) → IsDataField files r kind →
+      HasByte files r kind s n →
       kind_numbered (rela_of (file_at files r.file) r.table r.entry).kind ≡ o → KindHas r s n o
   field_kind s n r kind None is has there = (let both : None ≡ Some kind = sym there ∙ is.kind_is in cc)
   field_kind s n r kind (Some other) is has there =
       let both : Some kind ≡ Some other = sym is.kind_is ∙ there in
       let same : kind ≡ other = cc in
-      subst (λ (k : Kind). (0 < (line_of k).width) × Covers (rela_of (file_at files r.file) r.table r.entry).offset (line_of k).width n) same
+      subst (λ (k : Kind). (0 < (line_of k).width) × Covers (rela_of (file_at files r.file) r.table r.entry).offset (line_of k).width n)
+      same
       (is.fills, has.covers)
 
   found_field : (s : SectionId) (n : ℕ) (r : RecordId) (kind : Kind) → IsDataField files r kind → HasByte files r kind s n →
@@ -237,7 +239,8 @@ module _ (files : List (List ℕ)) (span : ℕ) (text : List ℕ) (sound : AreSo
               ap b at ∙ holds.sections s n stored within free ∙ sym (holds'.sections s n stored within free) ∙ ap b' (sym at))
         ]
 
-    in_slot : (a g k : ℕ) → g < group_count files span → k < length (group_slots files span g) → Covers (slot_place files span g k) 8 a → b a ≡ b' a
+    in_slot : (a g k : ℕ) → g < group_count files span → k < length (group_slots files span g) → Covers (slot_place files span g k) 8 a →
+        b a ≡ b' a
     in_slot a g k within inside covers =
         let s = get_or (group_slots files span g) k (record { file = 0; symbol = 0 }) in
         let is : IsSlot files span g k s =

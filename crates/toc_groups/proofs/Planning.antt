@@ -1,6 +1,6 @@
 -- The plan of data, and its numbers.
 use Rattle.std.proofs.Common.{ℕ, zero, suc, ◌≡◌, ◌<◌, ◌≤◌, ◌+◌, ◌^◌, inl, inr, Bool, true, false, ◌==◌, List, [], ◌∷◌, length, map, get_or}
-use Rattle.std.proofs.Common.{Option, Some, None, is_some, position, slice_get, if◌then◌else◌, ap, sym, ◌∙◌, refl, arith, cond, nat_lt}
+use Rattle.std.proofs.Common.{Option, Some, None, is_some, position, slice_get, if◌then◌else◌, ap, sym, subst, ◌∙◌, refl, arith, cond, nat_lt}
 use Rattle.std.specs.List.{range_with_len, position_or_len}
 use Rattle.std.proofs.lemmas.Bool.{cases_lt}
 use Rattle.std.proofs.lemmas.Bool.Decides.{nat_tests}
@@ -29,7 +29,8 @@ use Rattle.toc_groups.specs.inside.Plans.{IsSafe}
 use Rattle.toc_groups.proofs.Bounds.{slots_few}
 use Rattle.toc_groups.proofs.Slotting.{slots_extend, position_extended}
 use Rattle.toc_groups.proofs.Grouping.{group_end}
-use Rattle.toc_groups.proofs.Placing.{whole_of, number_below, start_low}
+use Rattle.toc_groups.proofs.GroupFiles.{whole_of, number_below}
+use Rattle.toc_groups.proofs.GroupPlaces.{start_low}
 
 -- ---- lists by their elements
 
@@ -163,7 +164,8 @@ module _ (files : List (List ℕ)) (span : ℕ) where
       (λ k found. slot_read file j k row within is found)
       ∙ ap (slot_number files span file) (sym at))
 
-  pub rows_are : (laid : TocGroups) → AreGroups files span laid → laid.rows.items ≡ map (slot_row files span) (range_with_len 0 (length files))
+  pub rows_are : (laid : TocGroups) → AreGroups files span laid →
+      laid.rows.items ≡ map (slot_row files span) (range_with_len 0 (length files))
   rows_are laid are =
       same_list (slot_row files span) [] laid.rows.items 0 (length files) are.row_count (λ file within.
       row_is file (get_or laid.rows.items file []) within (row_found laid file are within)
@@ -198,7 +200,8 @@ module _ (files : List (List ℕ)) (span : ℕ) where
 
   -- the symbols of the slots of each group
   named_from : (groups : List TocGroup) (f : ℕ → List SymbolId) (first n : ℕ) → length groups ≡ n →
-      ((i : ℕ) (g : TocGroup) → slice_get groups i ≡ Some g → slots_in g ≡ f (first + i)) → map slots_in groups ≡ map f (range_with_len first n)
+      ((i : ℕ) (g : TocGroup) → slice_get groups i ≡ Some g → slots_in g ≡ f (first + i)) →
+      map slots_in groups ≡ map f (range_with_len first n)
   named_from [] f first zero long each = refl
   named_from [] f first (suc n) long each = absurd (omega (arith, long))
   named_from (g ∷ groups) f first zero long each = absurd (omega (arith, long))
@@ -264,3 +267,16 @@ module _ (files : List (List ℕ)) (span : ℕ) where
     text_start = text_is pieces end start are end_is up;
     fits = fits;
   }
+
+-- what is laid out for a set of files and a span is that of the files and the span that they are
+pub record IsLaidOut (files : List (List ℕ)) (span : ℕ) (laid : TocGroups) (pieces : LaidPieces) : Type 0 where
+  pub groups : AreGroups files span laid
+  pub pieces_are : AreLaid files span pieces
+
+pub laid_out : (files set : List (List ℕ)) (span from : ℕ) (laid : TocGroups) (pieces : LaidPieces) → AreGroups set from laid →
+    set ≡ files →
+    from ≡ span → AreLaid files laid.span pieces → IsLaidOut files span laid pieces
+laid_out files set span from laid pieces groups_are same is pieces_are =
+    let groups : AreGroups files span laid =
+    subst (λ (s : ℕ). AreGroups files s laid) is (subst (λ (f : List (List ℕ)). AreGroups f from laid) same groups_are) in
+    record { groups = groups; pieces_are = subst (λ (s : ℕ). AreLaid files s pieces) groups.span_is pieces_are }

@@ -28,7 +28,8 @@ patch_from b p i room from =
     let front = length-take-le p.at b (omega (arith, room)) in
     get_or-append_right (take p.at b) (p.bytes ++ drop (end_of p) b) p.at i 0 front from
 
-patch_in : (b : List ℕ) (p : Patch) (k : ℕ) → end_of p ≤ length b → k < length p.bytes → get_or (patched b p) (p.at + k) 0 ≡ get_or p.bytes k 0
+patch_in : (b : List ℕ) (p : Patch) (k : ℕ) → end_of p ≤ length b → k < length p.bytes →
+    get_or (patched b p) (p.at + k) 0 ≡ get_or p.bytes k 0
 patch_in b p k room within =
     let e : p.at + k - p.at ≡ k = omega arith in
     patch_from b p (p.at + k) room (omega arith) ∙ ap (λ (i : ℕ). get_or (p.bytes ++ drop (end_of p) b) i 0) e
@@ -148,7 +149,8 @@ puts_second ends first second at i bytes shaped high some (inr room) is =
     }
 
 -- the shape stays
-pub shaped_first : (ends : DataEnds) (first second : List ℕ) (i : ℕ) (bytes : List ℕ) → IsShaped ends first second → i + length bytes ≤ length first →
+pub shaped_first : (ends : DataEnds) (first second : List ℕ) (i : ℕ) (bytes : List ℕ) → IsShaped ends first second →
+    i + length bytes ≤ length first →
     IsShaped ends (patched first (record { at = i; bytes = bytes })) second
 shaped_first ends first second i bytes shaped room = record {
   read_only_size = omega (arith, shaped.read_only_size, length-patched first (record { at = i; bytes = bytes }) room);
@@ -157,7 +159,8 @@ shaped_first ends first second i bytes shaped room = record {
   limit = shaped.limit;
 }
 
-pub shaped_second : (ends : DataEnds) (first second : List ℕ) (i : ℕ) (bytes : List ℕ) → IsShaped ends first second → i + length bytes ≤ length second →
+pub shaped_second : (ends : DataEnds) (first second : List ℕ) (i : ℕ) (bytes : List ℕ) → IsShaped ends first second →
+    i + length bytes ≤ length second →
     IsShaped ends first (patched second (record { at = i; bytes = bytes }))
 shaped_second ends first second i bytes shaped room = record {
   read_only_size = shaped.read_only_size;
@@ -199,7 +202,8 @@ wrote_first m ends first second b new bytes at i view shaped low some room is re
 
 pub wrote_second : (m : TwoParts) (ends : DataEnds) (first second : Vec ℕ Global) (b new bytes : List ℕ) (at i : ℕ) →
     parts ends first.items second.items ≡ m → IsShaped ends first.items second.items → ends.writable_start ≤ at → 0 < length bytes →
-    HasRange m.ends at (length bytes) → i ≡ at - ends.writable_start → b ≡ second.items → new ≡ patched b (record { at = i; bytes = bytes }) →
+    HasRange m.ends at (length bytes) → i ≡ at - ends.writable_start → b ≡ second.items →
+    new ≡ patched b (record { at = i; bytes = bytes }) →
     Puts (byte_of m) at bytes (byte_of (parts ends first.items (with_items second new).items))
 wrote_second m ends first second b new bytes at i view shaped high some room is read wrote =
     let p : Patch = record { at = i; bytes = bytes } in
@@ -227,7 +231,8 @@ pub between_second : (ends : DataEnds) (first second : List ℕ) → IsShaped en
     second ≡ bytes_between (byte_of (parts ends first second)) ends.writable_start ends.writable
 between_second ends first second shaped =
     let m = parts ends first second in
-    same_list (byte_of m) 0 second ends.writable_start (ends.writable - ends.writable_start) (omega (arith, shaped.writable_size)) (λ i within.
+    same_list (byte_of m) 0 second ends.writable_start (ends.writable - ends.writable_start) (omega (arith, shaped.writable_size))
+    (λ i within.
     let e : ends.writable_start + i - ends.writable_start ≡ i = omega arith in
     sym (byte_second m (ends.writable_start + i) (omega (arith, shaped.read_only_size, shaped.order)) (omega arith)
     ∙ ap (λ (j : ℕ). get_or second j 0) e))

@@ -34,7 +34,8 @@ use Rattle.toc_groups.specs.Plans.{LaidData, IsPlan, IsLaidPiece, IsLaidTarget, 
 use Rattle.toc_groups.specs.Parts.{IsPieceOf, IsTargetOf}
 use Rattle.symbol_table.specs.laws.Targets.{code_within}
 use Rattle.toc_groups.proofs.CommonNumbers.{common_below}
-use Rattle.toc_groups.proofs.Placing.{number_below, address_count}
+use Rattle.toc_groups.proofs.GroupFiles.{number_below}
+use Rattle.toc_groups.proofs.ReadPlaces.{address_count}
 
 module _ (files : List (List ℕ)) (span : ℕ) (plan : LaidData) (is : IsPlan files span plan) where
   -- ---- lists of files and groups
@@ -171,7 +172,8 @@ module _ (files : List (List ℕ)) (span : ℕ) (plan : LaidData) (is : IsPlan f
   }
 
   -- where a slot lies is read of the plan
-  pub slot_is : (file j : ℕ) → file < length files → j < symbol_count (file_at files file) → slot_in plan file j ≡ slot_address files span file j
+  pub slot_is : (file j : ℕ) → file < length files → j < symbol_count (file_at files file) →
+      slot_in plan file j ≡ slot_address files span file j
   slot_is file j within inside =
       let number : get_or (row_in plan file) j None ≡ slot_number files span file j =
       ap (λ (l : List (Option ℕ)). get_or l j None) (row_is file within)
@@ -325,7 +327,8 @@ module _ (files : List (List ℕ)) (span : ℕ) (plan : LaidData) (is : IsPlan f
   starts_long = ap (λ (l : List ℕ). length l) is.starts ∙ length-map-range_with_len (group_start files span) 0 (group_count files span)
 
   -- what is read as the slots of a group
-  pub slots_read : (g : ℕ) (xs : List SymbolId) → g < group_count files span → slice_get plan.named g ≡ Some xs → xs ≡ group_slots files span g
+  pub slots_read : (g : ℕ) (xs : List SymbolId) → g < group_count files span → slice_get plan.named g ≡ Some xs →
+      xs ≡ group_slots files span g
   slots_read g xs within read =
       let both : Some (group_slots files span g) ≡ Some xs = sym (named_found g within) ∙ read in
       cc

@@ -157,5 +157,6 @@ module _ (files : List (List ℕ)) (span : ℕ) (text : List ℕ) where
       is ∙ ap (λ (v : ℕ). made v a p toc) source
       ∙ ap (λ (v : ℤ). made (source_address files span text r kind) v p toc) addend
       ∙ ap (λ (v : ℕ). made (source_address files span text r kind) (rela_of (file_at files r.file) r.table r.entry).addend v toc) place
-      ∙ ap (made (source_address files span text r kind) (rela_of (file_at files r.file) r.table r.entry).addend (field_address files span text r))
+      ∙ ap (made (source_address files span text r kind) (rela_of (file_at files r.file) r.table r.entry).addend
+      (field_address files span text r))
       toc_is

@@ -18,10 +18,12 @@ use Rattle.toc_groups.specs.Parts.{slot_place}
 use Rattle.toc_groups.specs.declared.pieces.DataEnds.{DataEnds}
 use Rattle.toc_groups.specs.Plans.{data_ends}
 use Rattle.toc_groups.specs.inside.Memory.{HasRange}
-use Rattle.toc_groups.proofs.Apart.{section_in, toc_in, group_in, slot_in, sections_fit}
 use Rattle.toc_groups.proofs.Laying.{run_grows}
-use Rattle.toc_groups.proofs.Placing.{number_below}
 use Rattle.toc_groups.proofs.Running.{in_order, page_low}
+use Rattle.toc_groups.proofs.SectionOrder.{section_in, sections_fit}
+use Rattle.toc_groups.proofs.GroupOrder.{toc_in, group_in}
+use Rattle.toc_groups.proofs.Regions.{slot_in}
+use Rattle.toc_groups.proofs.GroupFiles.{number_below}
 
 module _ (files : List (List ℕ)) (span : ℕ) where
   sort_range : (sort : Sort) (file i : ℕ) → set_refusal files ≡ None → file < length files → i < e_shnum (file_at files file) →
@@ -59,26 +61,28 @@ module _ (files : List (List ℕ)) (span : ℕ) where
       let order = in_order files span whole in
       inr (omega (arith, group.0), omega (arith, there, group.1, order.writable))
 
-  end_case : (none : Bool) (commons start read_only : ℕ) → (commons == start) ≡ none → start ≤ commons → read_only ≤ start →
-      (nat_lt 0x30000000 ((if none then read_only else commons) - 0x10000000)) ≡ false → (read_only ≤ 0x40000000 → start ≤ 0x40000000) →
-      commons ≤ 0x40000000
-  end_case true commons start read_only is order before fits page =
-      let same : commons ≡ start = grind (arith, nat_tests, is) in
-      let low : read_only ≤ 0x40000000 = grind (arith, nat_tests, fits) in
-      omega (arith, same, page low)
-  end_case false commons start read_only is order before fits page = grind (arith, nat_tests, fits)
-
   big_case : (big : Bool) → (if big then Some DataTooBig else None) ≡ None → big ≡ false
   big_case true is = cc
   big_case false is = refl
 
-  -- all data ends by its limit
+  -- the last piece that isn't empty ends by the limit of data
+  pub end_low : data_refusal files span ≡ None → data_end files span ≤ 0x40000000
+  end_low fits =
+      let small = big_case (nat_lt 0x30000000 (data_end files span - 0x10000000)) fits in
+      grind (arith, nat_tests, small)
+
+  end_case : (none : Bool) (commons start read_only : ℕ) → (commons == start) ≡ none → (if none then read_only else commons) ≤ 0x40000000 →
+      (read_only ≤ 0x40000000 → start ≤ 0x40000000) → commons ≤ 0x40000000
+  end_case true commons start read_only is low page =
+      let same : commons ≡ start = grind (arith, nat_tests, is) in
+      omega (arith, same, page low)
+  end_case false commons start read_only is low page = omega (arith, low)
+
+  -- and so does all data
   pub data_low : set_refusal files ≡ None → data_refusal files span ≡ None → commons_end files span ≤ 0x40000000
   data_low whole fits =
-      let order = in_order files span whole in
       end_case (commons_end files span == writable_start files) (commons_end files span) (writable_start files) (read_only_end files) refl
-      (omega (arith, order.groups, order.writable, order.zeroed, order.commons)) order.read_only
-      (big_case (nat_lt 0x30000000 (data_end files span - 0x10000000)) fits) (page_low (read_only_end files))
+      (end_low fits) (page_low (read_only_end files))
 
   -- a slot ends below the limit too
   pub few_slots : (g k : ℕ) → set_refusal files ≡ None → data_refusal files span ≡ None → g < group_count files span →

@@ -1,6 +1,6 @@
 -- The runs of data one behind the other, and when data is too big.
 use Rattle.std.proofs.Common.{ℕ, zero, suc, ◌≡◌, ◌<◌, ◌≤◌, ◌+◌, ◌-◌, ◌⊎◌, inl, inr, Bool, true, false, ◌==◌, List, [], ◌∷◌, ◌++◌, length, map}
-use Rattle.std.proofs.Common.{Vec, Global, Some, None, slice_get, if◌then◌else◌, ap, sym, ◌∙◌, refl, arith}
+use Rattle.std.proofs.Common.{Vec, Global, Some, None, slice_get, if◌then◌else◌, ap, sym, subst, ◌∙◌, refl, arith}
 use Rattle.std.proofs.lemmas.List.{length-map}
 use Rattle.std.specs.List.{range_with_len}
 use Rattle.std.proofs.lemmas.Bool.Decides.{nat_tests}
@@ -29,7 +29,8 @@ use Rattle.toc_groups.specs.inside.Laid.{room_of, AreStarts, AreGroupStarts, Are
 use Rattle.toc_groups.specs.inside.Open.{AreGroups}
 use Rattle.toc_groups.proofs.Commons.{commons_fit}
 use Rattle.toc_groups.proofs.Laying.{aligned_least, run_grows, fit_before, passed}
-use Rattle.toc_groups.proofs.Placing.{groups_fit, address_count}
+use Rattle.toc_groups.proofs.GroupPlaces.{groups_fit}
+use Rattle.toc_groups.proofs.ReadPlaces.{address_count}
 
 -- the next page of what ends before data's end does so too
 pub page_low : (n : ℕ) → n ≤ 0x40000000 → aligned n 0x10000 ≤ 0x40000000
@@ -62,12 +63,13 @@ module _ (files : List (List ℕ)) (span : ℕ) where
       AreGroupStarts files span starts.starts.items × (starts.end ≡ groups_end files span)
   starts_are laid start starts are is laid_out =
       let rooms = rooms_are laid are in
-      let count : length (map room_of laid.groups.items) ≡ group_count files span =
+      let all : List Extent = map room_of laid.groups.items in
+      let count : length all ≡ group_count files span =
       length-map laid.groups.items room_of ∙ are.count in (
-        laid_out.starts ∙ ap (λ (s : ℕ). map (run_place s (map room_of laid.groups.items)) (range_with_len 0 (length (map room_of laid.groups.items)))) is
-            ∙ ap (λ (l : List Extent). map (run_place (writable_start files) l) (range_with_len 0 (length (map room_of laid.groups.items)))) rooms
+        laid_out.starts ∙ ap (λ (s : ℕ). map (run_place s all) (range_with_len 0 (length all))) is
+            ∙ ap (λ (l : List Extent). map (run_place (writable_start files) l) (range_with_len 0 (length all))) rooms
             ∙ ap (λ (n : ℕ). map (group_start files span) (range_with_len 0 n)) count,
-        laid_out.end ∙ ap (λ (s : ℕ). run_end s (map room_of laid.groups.items)) is ∙ ap (run_end (writable_start files)) rooms,
+        laid_out.end ∙ ap (λ (s : ℕ). run_end s all) is ∙ ap (run_end (writable_start files)) rooms,
       )
 
   -- ---- runs in order
@@ -114,6 +116,14 @@ module _ (files : List (List ℕ)) (span : ℕ) where
   pub start_is : (end start : ℕ) → end ≡ read_only_end files → IsAlignedUp end PAGE start → start ≡ writable_start files
   start_is end start is up = aligned_is end PAGE start (omega arith) up ∙ ap (λ (n : ℕ). aligned n PAGE) is
 
+  -- the groups are laid out behind the read-only sections
+  pub starts_behind : (laid : TocGroups) (read_only start : ℕ) (groups : List TocGroup) (starts : GroupStarts) → AreGroups files span laid →
+      read_only ≡ read_only_end files → IsAlignedUp read_only PAGE start → groups ≡ laid.groups.items →
+      AreStarts start (map room_of groups) starts → AreGroupStarts files span starts.starts.items × (starts.end ≡ groups_end files span)
+  starts_behind laid read_only start groups starts are is up these laid_out =
+      starts_are laid start starts are (start_is read_only start is up)
+      (subst (λ (l : List TocGroup). AreStarts start (map room_of l) starts) these laid_out)
+
   pub groups_past : (laid : TocGroups) (start : ℕ) (groups : List TocGroup) (r : Refusal) → AreGroups files span laid →
       start ≡ writable_start files → groups ≡ laid.groups.items →
       (r ≡ Memory) ⊎ (past_limit (run_end start (map room_of groups)) ≡ Some r) → set_refusal files ≡ None →
@@ -139,7 +149,8 @@ module _ (files : List (List ℕ)) (span : ℕ) where
         writable_start = start;
         zeroed = zeros_end;
       })
-  runs_are starts read_only start groups zeroed_runs zeros_end whole starts_are_there read_only_is start_at groups_at zeroed_start_at zeroed_at low =
+  runs_are starts read_only start groups zeroed_runs zeros_end whole starts_are_there read_only_is start_at groups_at zeroed_start_at
+      zeroed_at low =
       let order = in_order whole in
       record {
         starts = starts_are_there;

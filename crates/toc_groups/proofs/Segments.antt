@@ -33,6 +33,7 @@ module _ (files : List (List ℕ)) (span : ℕ) (text : List ℕ) where
         are = two ∙ ap (λ (l : List Segment). l ++ segment WRITABLE second ends.writable_start ends.commons) front
             ∙ ap (λ (b : List ℕ). segment READ_ONLY (bytes_between byte IMAGE_START (read_only_end files)) IMAGE_START (read_only_end files)
             ++ segment WRITABLE b ends.writable_start ends.commons) bytes'
-            ∙ ap (λ (e : DataEnds). segment READ_ONLY (bytes_between byte IMAGE_START (read_only_end files)) IMAGE_START (read_only_end files)
+            ∙ ap (λ (e : DataEnds). segment READ_ONLY (bytes_between byte IMAGE_START (read_only_end files)) IMAGE_START
+            (read_only_end files)
             ++ segment WRITABLE (bytes_between byte (writable_start files) (writable_end files span)) e.writable_start e.commons) are;
       }

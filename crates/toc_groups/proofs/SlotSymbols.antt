@@ -23,10 +23,10 @@ use Rattle.toc_groups.specs.Contents.{IsSlot}
 use Rattle.toc_groups.specs.Plans.{LaidData, IsPlan}
 use Rattle.toc_groups.proofs.Planning.{slice_get_at}
 use Rattle.toc_groups.proofs.Reading.{slots_read}
-use Rattle.toc_groups.proofs.Apart.{among_end}
 use Rattle.toc_groups.proofs.Bounds.{whole_file}
 use Rattle.toc_groups.proofs.Every.{all_append}
 use Rattle.toc_groups.proofs.RecordValues.{record_goes}
+use Rattle.toc_groups.proofs.GroupOrder.{among_end}
 
 -- a symbol of one of the files that goes somewhere
 pub record Goes (files : List (List ℕ)) (s : SymbolId) : Type 0 where
@@ -71,7 +71,8 @@ module _ (files : List (List ℕ)) (whole : set_refusal files ≡ None) (none : 
   in_go file zero within few = tt
   in_go file (suc n) within few =
       let b = file_at files file in
-      all_append (Goes files) (items_in named_walk file b n) (named_by file b n (record_count b n)) (in_go file n within (omega (arith, few)))
+      all_append (Goes files) (items_in named_walk file b n) (named_by file b n (record_count b n))
+      (in_go file n within (omega (arith, few)))
       (by_go file n (record_count b n) within (omega (arith, few)) (omega arith))
 
   with_case : (slots : List SymbolId) (s : SymbolId) (t : Bool) → AllByRecursion (Goes files) slots → Goes files s →

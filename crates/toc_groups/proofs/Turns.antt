@@ -47,13 +47,15 @@ behind_later n q piece fit =
     behind_case n q piece (piece.size == 0)
     (aligned_later n q piece.align turn.0 (power_pos piece.align fit.power) turn.1)
 
-pub run_later : (pieces : List Extent) (n q : ℕ) → AllByRecursion IsTocExtent pieces → run_end (n + 256 * q) pieces ≡ run_end n pieces + 256 * q
+pub run_later : (pieces : List Extent) (n q : ℕ) → AllByRecursion IsTocExtent pieces →
+    run_end (n + 256 * q) pieces ≡ run_end n pieces + 256 * q
 run_later [] n q are = refl
 run_later (x ∷ xs) n q are =
     ap (λ (e : ℕ). run_end e xs) (behind_later n q x are.0) ∙ run_later xs (behind n x) q are.1
 
 -- the ends behind so many slots give the end behind more of them
-pub ends_later : (sections : List Extent) (ends : List ℕ) (slots rest end : ℕ) → AllByRecursion IsTocExtent sections → AreEnds sections ends →
+pub ends_later : (sections : List Extent) (ends : List ℕ) (slots rest end : ℕ) → AllByRecursion IsTocExtent sections →
+    AreEnds sections ends →
     rest ≡ slots % 32 → get_or ends rest 0 ≡ end → 8 * (slots - rest) + end ≡ run_end (8 * slots) sections
 ends_later sections ends slots rest end fit are is read =
     let low : rest < 32 = omega (arith, is) in

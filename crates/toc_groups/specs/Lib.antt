@@ -5,6 +5,7 @@ pub mod Groups
 pub mod Data
 pub mod Parts
 pub mod PlacedData
+pub mod PlacedSegments
 pub mod Plans
 pub mod Values
 pub mod Contents

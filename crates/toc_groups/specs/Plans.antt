@@ -17,9 +17,9 @@ use Rattle.toc_groups.specs.Groups.{group_number, group_count}
 use Rattle.toc_groups.specs.declared.pieces.DataEnds.{DataEnds}
 use Rattle.toc_groups.specs.Data.{read_only_end, writable_start, writable_end, commons_end, group_start, group_slots, base_of, piece_addresses, piece_address, target_address, slot_row, slot_address, text_start, data_refusal}
 
--- the TOC span for which data is laid out; the TOC group and the TOC base of each file; the addresses of all sections and commons, and how many of them come before the sections
--- of each file and before the commons; where each group starts, the symbols for which its slots were made, and the numbers of the slots of
--- each file's symbols; where the runs of data begin and end, and the start of text
+-- the TOC span for which data is laid out; the TOC group and the TOC base of each file; the addresses of all sections and commons, and how
+-- many of them come before the sections of each file and before the commons; where each group starts, the symbols for which its slots were
+-- made, and the numbers of the slots of each file's symbols; where the runs of data begin and end, and the start of text
 pub record LaidData : Type 0 where
   pub span : ℕ
   pub groups : List ℕ
@@ -104,4 +104,5 @@ pub record TellsOf (files : List (List ℕ)) (span : ℕ) (plan : LaidData) : Ty
   pub knows_symbol : (file j : ℕ) → file < length files → j < symbol_count (file_at files file) → IsLaidSymbol plan file j
   pub pieces : (piece : Piece) → IsPieceOf files piece → slice_index plan.pieces (piece_index plan piece) ≡ piece_address files span piece
   pub targets : (target : Target) → IsTargetOf files target → address_in plan target ≡ target_address files span target
-  pub slots : (file j : ℕ) → file < length files → j < symbol_count (file_at files file) → slot_in plan file j ≡ slot_address files span file j
+  pub slots : (file j : ℕ) → file < length files → j < symbol_count (file_at files file) →
+      slot_in plan file j ≡ slot_address files span file j

@@ -1,5 +1,5 @@
--- Values of relocation records (ELFv2 ABI, "Relocation Notations"): S is the address of the record's symbol, or of its slot, A the addend, P
--- the address of the field, and T the TOC base of the file. Text lies at any addresses, one for each text section.
+-- Values of relocation records (ELFv2 ABI, "Relocation Notations"): S is the address of the record's symbol, or of its slot, A the
+-- addend, P the address of the field, and T the TOC base of the file. Text lies at any addresses, one for each text section.
 use Rattle.std.specs.Prelude.{ℕ, ℤ, pos, neg_ℤ, ◌+ℤ◌, ◌+◌, ◌-◌, ◌%◌, ◌^◌, Bool, true, not, List, ◌&&◌, Option, None, Some, unwrap_or, slice_index, int_lt, if◌then◌else◌}
 use Rattle.std.specs.Int.{int_rem_euclid}
 use Rattle.std.specs.Option.{option_map}

@@ -9,6 +9,7 @@ ghost use Rattle.toc_groups.specs.Data.{data_refusal};
 ghost use Rattle.toc_groups.specs.Values.{passes};
 ghost use Rattle.toc_groups.specs.Parts.{Part, Takes};
 ghost use Rattle.toc_groups.specs.PlacedData.{IsPlacedData};
+ghost use Rattle.toc_groups.specs.PlacedSegments.{ArePlacedSegments};
 ghost use Rattle.toc_groups.specs.Plans.{LaidData, IsPlan, TellsOf};
 
 /// No two parts of data have an address in common.
@@ -37,6 +38,14 @@ pub fn tests_are_the_table()
 
 /// Data that isn't too big lies in its segments, one before the other, and text begins at a page behind them.
 pub fn data_is_placed()
-    ensures { (files : List (List ℕ)) (span : ℕ) → set_refusal files ≡ None → data_refusal files span ≡ None →
-        IsPlacedData files span }
+    ensures { (files : List (List ℕ)) (span : ℕ) →
+        set_refusal files ≡ None → data_refusal files span ≡ None → IsPlacedData files span }
+{}
+
+/// The segments of data that isn't too big are those of an executable, in order and below text; a segment of text behind them makes an
+/// image.
+pub fn data_segments_are_placed()
+    ensures { (files : List (List ℕ)) (span : ℕ) (text : List ℕ) (segments : List Segment) →
+        set_refusal files ≡ None → data_refusal files span ≡ None →
+        AreDataSegments files span text segments → ArePlacedSegments files span segments }
 {}

@@ -15,9 +15,14 @@ mod toc_ends;
 mod values;
 
 pub use contents::{data_bytes, filled_field, site_of};
-pub use laws::{data_is_one, data_is_placed, parts_are_apart, plans_are_read, tests_are_the_table};
+pub use laws::{
+    data_is_one, data_is_placed, data_segments_are_placed, parts_are_apart, plans_are_read,
+    tests_are_the_table,
+};
 pub use plan::{DataPlan, lay_data};
-pub use values::{field_address, holds_value, record_of, record_value, section_of, symbol_address};
+pub use values::{
+    address_of, field_address, holds_value, record_of, record_value, section_of, symbol_address,
+};
 
 #[cfg(test)]
 mod tests;

@@ -49,7 +49,8 @@ impl Model for DataPlan {
       text_start = p.text_start;
     } };
 
-    ghost invariant = { λ p. IsSafe p.groups.numbers.items p.pieces.starts.items p.groups.rows.items };
+    ghost invariant = { λ p. IsSafe p.groups.numbers.items p.pieces.starts.items
+        p.groups.rows.items };
 }
 
 /// A number and an addend, modulo 2^64.

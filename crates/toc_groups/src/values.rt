@@ -34,10 +34,11 @@ fn code_address(text: &Places, target: Target) -> u64
 }
 
 /// The address of a target, in data or in text, or the number that it is.
-fn address_of(plan: &DataPlan, text: &Places, target: Target) -> u64
+pub fn address_of(plan: &DataPlan, text: &Places, target: Target) -> u64
     requires laid { IsLaidTarget plan.now target }
     requires placed { IsPlacedTarget text.now.sections target }
-    ensures { result ≡ unwrap_or (address_in plan.now target) (code_address text.now.sections target) }
+    ensures { result ≡
+        unwrap_or (address_in plan.now target) (code_address text.now.sections target) }
 {
     match plan.address(target) {
         Some(address) => address,

@@ -181,7 +181,8 @@ module _ (laid : LaidFiles) (whole : set_refusal laid.files ≡ None) (few : len
       let reach = reaches laid (base_of laid r.file) (record_target laid.files r) in
       let address = slot_address laid r in
       let kept = list_any (is_below r.file address) uses || list_any (is_above r.file address) uses in
-      let own : slice_index_or orderly r.file false ≡ is_orderly laid.files r.file = orderly_of laid.files orderly r.file judged is.file_in in
+      let own : slice_index_or orderly r.file false ≡ is_orderly laid.files r.file =
+      orderly_of laid.files orderly r.file judged is.file_in in
       let need : kept ≡ list_any (needs_slot laid r.file address) (all_records laid.files) =
       kept_needed laid r.file address (omega (arith, is.file_in, few)) few uses same in
       ap (λ (o : Bool). (fills && reach) && (o && not kept)) own

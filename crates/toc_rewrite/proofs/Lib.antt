@@ -2,6 +2,7 @@ pub mod Sections
 pub mod SoundRecords
 pub mod Windows
 pub mod FoundRecords
+pub mod ReadRecords
 pub mod NeededSlots
 pub mod SlotPlaces
 pub mod LoneFields

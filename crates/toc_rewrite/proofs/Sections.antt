@@ -42,7 +42,8 @@ range_more a (suc n) =
     ∙ ap (λ (l : List ℕ). a ∷ l) (range_more (a + 1) n ∙ ap (λ (m : ℕ). range_with_len (a + 1) n ++ m ∷ []) same)
 
 -- a list of what each of the first numbers has, with one more
-pub map_more : {X : Type 0} (f : ℕ → X) (n : ℕ) (old new : List X) (x : X) → old ≡ map f (range_with_len 0 n) → new ≡ old ++ x ∷ [] → x ≡ f n →
+pub map_more : {X : Type 0} (f : ℕ → X) (n : ℕ) (old new : List X) (x : X) → old ≡ map f (range_with_len 0 n) → new ≡ old ++ x ∷ [] →
+    x ≡ f n →
     new ≡ map f (range_with_len 0 (n + 1))
 map_more {X} f n old new x before is this =
     let zeroth : n ≡ 0 + n = omega arith in

@@ -101,7 +101,8 @@ pub address_lies : (files : List (List ℕ)) (r : RecordId) → set_refusal file
 address_lies files r whole none is address toc =
     let b = file_at files r.file in
     let field = sound_field files r none is Addr64 (address_kind (kind_of files r) address) (omega arith) in
-    let stored = bytes_whole files r.file r.section whole is.file_in (record_about files r whole is) (toc_stored (sort_of b r.section) toc) in
+    let stored = bytes_whole files r.file r.section whole is.file_in (record_about files r whole is)
+    (toc_stored (sort_of b r.section) toc) in
     omega (arith, stored, field.within)
 
 -- where a section of a file is gone to

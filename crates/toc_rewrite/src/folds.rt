@@ -4,6 +4,7 @@ ghost use Rattle.std.specs.List.{list_any, slice_index_or};
 ghost use Rattle.std.specs.List.Sorted.{IsPermutation, IsNonDecreasingBy};
 ghost use Rattle.std.specs.Ordering.{nat_cmp};
 ghost use Rattle.symbol_table.specs.Records.{records_refusal};
+ghost use Rattle.toc_rewrite.specs.declared.found.Slot.{Slot};
 ghost use Rattle.toc_rewrite.specs.Laid.{laid_files, HasAddresses};
 ghost use Rattle.toc_rewrite.specs.Folded.{is_slot_at, is_slot_named, folded_in, IsNamed, AreFolds};
 ghost use Rattle.toc_rewrite.specs.inside.Slots.{place_of, place_rank, slot_rank, name_rank, is_free, IsLowSlot};
@@ -141,6 +142,28 @@ fn named_slots(alloc: Global, slots: &[Slot]) -> Result<Vec<Slot>, AllocError>
     Ok(named)
 }
 
+/// How many of slots in order of their places lie before one.
+fn slots_before(slots: &[Slot], place: SlotPlace) -> usize
+    requires { IsNonDecreasingBy slot_rank slots.now }
+    ensures before { (k : ℕ) (d : Slot) → k < result →
+        slot_rank (slice_index_or slots.now k d) < place_rank place }
+    ensures after { (k : ℕ) (d : Slot) → result ≤ k → k < length slots.now →
+        place_rank place ≤ slot_rank (slice_index_or slots.now k d) }
+{
+    slots.partition_point(|s| s.place().is_before(place))
+}
+
+/// How many of slots in order of their files and addresses come before a number in a file.
+fn named_before(named: &[Slot], file: u32, number: u64) -> usize
+    requires { IsNonDecreasingBy name_rank named.now }
+    ensures before { (k : ℕ) (d : Slot) → k < result →
+        name_rank (slice_index_or named.now k d) < file * 2 ^ 64 + number }
+    ensures after { (k : ℕ) (d : Slot) → result ≤ k → k < length named.now →
+        file * 2 ^ 64 + number ≤ name_rank (slice_index_or named.now k d) }
+{
+    named.partition_point(|s| s.is_named_before(file, number))
+}
+
 /// The foldable slots of files, and which of the files are orderly. Reading them takes no memory.
 #[derive(Drop)]
 pub struct Folds {
@@ -187,8 +210,9 @@ impl Folds {
             section,
             offset,
         };
-        let next = self.slots.partition_point(|s| s.place().is_before(place));
-        match self.slots.get(next) {
+        let slots = self.slots.as_slice();
+        let next = slots_before(slots, place);
+        match slots.get(next) {
             Some(slot) => slot.is_at(file, section, offset),
             None => false,
         }
@@ -199,10 +223,9 @@ impl Folds {
     pub fn named(&self, file: u32, number: u64) -> Option<Slot>
         ensures { IsNamed self.now file number result }
     {
-        let next = self
-            .named
-            .partition_point(|s| s.is_named_before(file, number));
-        match self.named.get(next) {
+        let named = self.named.as_slice();
+        let next = named_before(named, file, number);
+        match named.get(next) {
             Some(slot) => {
                 if slot.is_named(file, number) {
                     Some(*slot)

@@ -52,7 +52,8 @@ impl<'l, 'a, 'b> Model for Laid<'l, 'a, 'b> {
 
     ghost view = { λ l. laid_files l.res.now.files l.bases.now l.pieces.now };
 
-    ghost invariant = { λ l. IsLaid (laid_files l.res.now.files l.bases.now l.pieces.now) l.firsts };
+    ghost invariant = { λ l. IsLaid (laid_files l.res.now.files l.bases.now l.pieces.now)
+        l.firsts };
 }
 
 /// How many sections come before those of each file of a set, and before all commons.
@@ -81,7 +82,8 @@ impl<'l, 'a, 'b> Laid<'l, 'a, 'b> {
     ) -> Result<Self, AllocError>
         requires whole { records_refusal res.now.files ≡ None }
         requires addresses { HasAddresses (laid_files res.now.files bases.now pieces.now) }
-        ensures { IfOk result (λ l. l ≡ laid_files res.entry.now.files bases.entry.now pieces.entry.now) }
+        ensures { IfOk result (λ l. l ≡
+            laid_files res.entry.now.files bases.entry.now pieces.entry.now) }
     {
         Ok(Laid {
             res,

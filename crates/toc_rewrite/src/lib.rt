@@ -16,7 +16,7 @@ pub use folds::{Folds, foldable};
 pub use found::Slot;
 pub use laws::{halves_reach, rewritten_words_may_be, slots_are_only_loaded};
 pub use loads::TocRecord;
-pub use words::fold_word;
+pub use words::{fold_word, only_loads, target_register};
 
 #[cfg(test)]
 mod tests;

@@ -17,15 +17,8 @@ use crate::words::{only_loads, suits};
 use elf64_records::Rela;
 use object_set::RecordId;
 use ppc_bytes::word_at;
-use reloc_fields::{Kind, kind_of, width};
-use symbol_table::{Prologues, Target};
-
-/// The kind of a relocation with this number.
-fn kind_numbered(number: u32) -> Option<Kind>
-    ensures { result ≡ kind_numbered number }
-{
-    kind_of(number)
-}
+use reloc_fields::{Kind, width};
+use symbol_table::{Prologues, Target, kind_numbered};
 
 /// Whether a relocation of a kind goes somewhere.
 fn goes(kind: Kind) -> bool

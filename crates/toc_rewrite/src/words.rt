@@ -28,7 +28,7 @@ fn primary_opcode(word: u32) -> u32
 }
 
 /// The register that a word writes or stores.
-fn target_register(word: u32) -> u32
+pub fn target_register(word: u32) -> u32
     ensures register { result ≡ target_register word }
     ensures fits { result < 32 }
 {

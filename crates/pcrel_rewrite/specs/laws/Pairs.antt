@@ -32,7 +32,8 @@ use Rattle.pcrel_rewrite.specs.Words.{IsAccess, ArePairWords, IsPassed}
 use Rattle.pcrel_rewrite.specs.laws.Words.{one_insn, one_register}
 
 -- the access reads the register that holds the address
-address_read : (word address : ℕ) (uses : Uses) → 0 < address → (a : IsAccess word address uses) → Reads (operation_of a.access.insn) address
+address_read : (word address : ℕ) (uses : Uses) → 0 < address → (a : IsAccess word address uses) →
+    Reads (operation_of a.access.insn) address
 address_read word address uses some a =
     let base : 0 < a.access.form.base = let same = a.base_is in omega arith in
     subst (λ (r : ℕ). Reads (operation_of a.access.insn) r) a.base_is (reads_base a.access.insn a.access.form a.here.form_is base)
@@ -46,7 +47,8 @@ none_between bytes head tail other p q = λ before.
     let at : head + 8 + 4 * k ≡ tail = omega (arith, near.least, near.aligned) in
     let passed : IsPassed q.uses (number_at 4 bytes (head + 8 + 4 * k)) = q.between k (omega (arith, at, before)) in
     let here : IsPassed q.uses (number_at 4 bytes tail) = subst (λ (n : ℕ). IsPassed q.uses (number_at 4 bytes n)) at passed in
-    let same : p.access.access.insn ≡ here.insn = one_insn p.access.access.insn here.insn (number_at 4 bytes tail) p.access.here.is here.is in
+    let same : p.access.access.insn ≡ here.insn =
+    one_insn p.access.access.insn here.insn (number_at 4 bytes tail) p.access.here.is here.is in
     let address : p.address ≡ q.address =
     one_register (number_at 4 bytes head) (number_at 4 bytes (head + 4)) p.address q.address p.loads q.loads in
     let own : q.uses.address ≡ q.address = ap (λ (u : Uses). u.address) q.access.uses_is in
@@ -232,7 +234,8 @@ pairs_apart files s head tail later end whole p q less =
     let here = q.load.here in
     let f = load_field files s later r here in
     let behind : head + 8 ≤ later = loads_apart files s head later p.load.record_id r whole p.load.here here less in
-    let spared = record_spared files s.file r (meets s.section (head + 8) (tail + 4 - (head + 8))) here.record_in here.file_is p.untouched in
+    let spared = record_spared files s.file r (meets s.section (head + 8) (tail + 4 - (head + 8))) here.record_in here.file_is
+    p.untouched in
     elim (cases_lt later (tail + 4)) [
       | inl inside ↦ (
           let near = p.words.near in

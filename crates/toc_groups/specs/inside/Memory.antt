@@ -1,4 +1,5 @@
--- The memory of data while it is filled: the bytes of the segment that is only read, and those that the file has of the one that is written.
+-- The memory of data while it is filled: the bytes of the segment that is only read, and those that the file has of the one that is
+-- written.
 use Rattle.std.specs.Prelude.{◌≡◌, ℕ, ◌+◌, ◌<◌, ◌≤◌, ◌⊎◌, ◌-◌, ◌^◌, List, length, slice_index, nat_lt, if◌then◌else◌}
 use Rattle.elf64_exec.specs.declared.memory_map.TheConstants.{IMAGE_START}
 use Rattle.toc_groups.specs.declared.pieces.DataEnds.{DataEnds}

@@ -51,7 +51,8 @@ module _ (files : List (List ℕ)) (span : ℕ) where
     pub each : (g : ℕ) (whole : TocGroup) → slice_get groups g ≡ Some whole → IsGroup files (group_among files span g n) whole
     pub numbers_are : numbers ≡ map (group_number files span) (range_with_len 0 n)
     pub row_count : length rows ≡ n
-    pub numbered : (file : ℕ) (row : List (Option ℕ)) → slice_get rows file ≡ Some row → IsNumbered files (group_with files span file) file row
+    pub numbered : (file : ℕ) (row : List (Option ℕ)) → slice_get rows file ≡ Some row →
+        IsNumbered files (group_with files span file) file row
 
   -- all files have joined
   pub record HaveJoined (all : AllJoined) : Type 0 where

@@ -1,6 +1,6 @@
 // Files of a link, made of the room that their sections take, their symbols and what they load from slots.
 use crate::{DataPlan, lay_data};
-use object_builder::{FileHeader, Object, Record, Section, Stated, Symbol};
+use object_builder::{Object, Record, Section, Stated, Symbol};
 use object_set::{FileBytes, ObjectSet, Refusal};
 use ppc_bytes::constants::{SHF_ALLOC, SHN_ABS, SHN_COMMON, STB_GLOBAL, STB_WEAK};
 use std::alloc::Global;
@@ -148,20 +148,6 @@ fn symbol(named: Named) -> Symbol<'static> {
     }
 }
 
-/// An object of these parts.
-fn of_parts<'a>(sections: &'a [Section<'a>], symbols: &'a [Symbol<'a>]) -> Object<'a> {
-    Object {
-        header: FileHeader::OBJECT,
-        sections,
-        null_symbol: Symbol::NULL,
-        symbols,
-        null_section: Stated::TRUE,
-        symbol_table: Stated::TRUE,
-        symbol_names: Stated::TRUE,
-        section_names: Stated::TRUE,
-    }
-}
-
 /// The bytes of a file, which has a WEAK `_start` as its last symbol.
 fn file_bytes(alloc: Global, file: &File, zeros: &[u8]) -> Result<Vec<u8>, Fail> {
     let mut code = Vec::new(alloc);
@@ -193,7 +179,7 @@ fn file_bytes(alloc: Global, file: &File, zeros: &[u8]) -> Result<Vec<u8>, Fail>
         info: STB_WEAK << 4,
         ..Symbol::START
     })?;
-    Ok(of_parts(&sections, &symbols).file(alloc)?)
+    Ok(Object::of_parts(&sections, &symbols).file(alloc)?)
 }
 
 /// The files with their bytes.

@@ -55,7 +55,8 @@ module _ (test : RecordId → Bool) (file : ℕ) (b : List ℕ) where
         | inl less ↦ all ∙ ap (λ (x : Bool). x || list_any test own) (table_passes i n less passes)
         | inr most ↦ (
             let same : i ≡ n = omega arith in
-            let last : list_any test own ≡ true = subst (λ (m : ℕ). list_any test (records_in file b m (record_count b m)) ≡ true) same passes in
+            let last : list_any test own ≡ true =
+            subst (λ (m : ℕ). list_any test (records_in file b m (record_count b m)) ≡ true) same passes in
             all ∙ ap (λ (x : Bool). list_any test before || x) last ∙ or_true (list_any test before))
       ]
 

@@ -6,7 +6,7 @@ ghost use Rattle.toc_rewrite.specs.declared.laid.TheConstants.{ADDRESS_END};
 
 use crate::laid::{ADDRESS_END, firsts_of};
 use crate::{Folds, foldable};
-use object_builder::{FileHeader, Object, Record, Section, Stated, Symbol};
+use object_builder::{Object, Record, Section, Symbol};
 use object_set::{FileBytes, ObjectSet};
 use ppc_bytes::Memory;
 use ppc_bytes::constants::{SHN_ABS, STB_GLOBAL, STB_WEAK};
@@ -115,20 +115,6 @@ fn symbols_of(alloc: Global, number: usize) -> Result<Vec<Symbol<'static>>, Allo
     Ok(symbols)
 }
 
-/// An object of these parts.
-fn of_parts<'a>(sections: &'a [Section<'a>], symbols: &'a [Symbol<'a>]) -> Object<'a> {
-    Object {
-        header: FileHeader::OBJECT,
-        sections,
-        null_symbol: Symbol::NULL,
-        symbols,
-        null_section: Stated::TRUE,
-        symbol_table: Stated::TRUE,
-        symbol_names: Stated::TRUE,
-        section_names: Stated::TRUE,
-    }
-}
-
 /// The bytes of a section, and its records.
 #[derive(Drop)]
 struct SectionParts {
@@ -169,7 +155,7 @@ fn file_bytes(alloc: Global, number: usize, file: &File) -> Result<Vec<u8>, Memo
         sections.push(section(i, part))?;
     }
     let symbols = symbols_of(alloc, number)?;
-    of_parts(&sections, &symbols).file(alloc)
+    Object::of_parts(&sections, &symbols).file(alloc)
 }
 
 /// Whether all addresses are as low as data's.

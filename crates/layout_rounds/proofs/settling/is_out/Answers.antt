@@ -5,7 +5,7 @@ use Rattle.std.proofs.lemmas.List.{get_or_read}
 use Rattle.layout_rounds.specs.declared.shape.ShapeSite.{ShapeSite}
 use Rattle.layout_rounds.specs.FarSets.{member}
 use Rattle.layout_rounds.specs.Shapes.{no_site}
-use Rattle.layout_rounds.proofs.StubsOut.{key_in, section_in, address_is, address_small, stub_is, stub_low, size_is, out_is}
+use Rattle.layout_rounds.proofs.StubsOut.{key_in, section_in, address_is, address_low, stub_is, stub_low, size_is, out_is}
 use Rattle.layout_rounds.proofs.settling.is_out.Goals as goal
 
 pub key-requires : goal.key-requires
@@ -35,24 +35,17 @@ section_at-requires c =
 pub overflow_add-at : goal.overflow_add-at
 overflow_add-at c =
     let s = c.args.settled.now in
-    let site = get_or_read c.args.shape.now.sites.items c.args.i c.index-site.result.now c.requires.call
-    c.index-site.ensures no_site in
-    let at = address_is c.args.shape.now c.args.span s.keyed s.far s.places c.requires.sound c.requires.layout c.args.i
+    let site = get_or_read c.args.shape.now.sites.items c.args.i c.index-site.result.now c.requires.call c.index-site.ensures no_site in
+    let low = address_low c.args.shape.now c.args.span s.keyed s.far s.places c.requires.sound c.requires.layout c.args.i
     c.requires.call c.index-site.result.now c.section_at.result site c.section_at.ensures in
-    let small = address_small c.args.shape.now c.args.span s.keyed s.far s.places c.requires.sound c.requires.layout
-    c.args.i c.requires.call in
-    omega (arith, at, small)
+    omega (arith, low)
 
 pub reaches-requires-clause-at : goal.reaches-requires-clause-at
 reaches-requires-clause-at c =
     let s = c.args.settled.now in
-    let site = get_or_read c.args.shape.now.sites.items c.args.i c.index-site.result.now c.requires.call
-    c.index-site.ensures no_site in
-    let at = address_is c.args.shape.now c.args.span s.keyed s.far s.places c.requires.sound c.requires.layout c.args.i
-    c.requires.call c.index-site.result.now c.section_at.result site c.section_at.ensures in
-    let small = address_small c.args.shape.now c.args.span s.keyed s.far s.places c.requires.sound c.requires.layout
-    c.args.i c.requires.call in
-    omega (arith, at, small)
+    let site = get_or_read c.args.shape.now.sites.items c.args.i c.index-site.result.now c.requires.call c.index-site.ensures no_site in
+    address_low c.args.shape.now c.args.span s.keyed s.far s.places c.requires.sound c.requires.layout c.args.i c.requires.call
+    c.index-site.result.now c.section_at.result site c.section_at.ensures
 
 pub reaches-requires-clause-to : goal.reaches-requires-clause-to
 reaches-requires-clause-to c =

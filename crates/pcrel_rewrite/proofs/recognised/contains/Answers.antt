@@ -1,6 +1,6 @@
 use Rattle.std.proofs.Common.{sym, subst, refl, rules}
 use Rattle.std.specs.List.{Contains}
-use Rattle.symbol_table.proofs.PlaceOrder.{split_point}
+use Rattle.symbol_table.proofs.PlaceOrder.{split_point, before_point, after_point}
 use Rattle.pcrel_rewrite.specs.inside.Order.{rank}
 use Rattle.pcrel_rewrite.proofs.Sought.{none_sought, rank_sought, same_place}
 use Rattle.pcrel_rewrite.proofs.recognised.contains.Goals as goal
@@ -14,7 +14,8 @@ returns-in-None c =
     let next = c.partition_point-next.result in
     let split = split_point rank this places next c.requires c.partition_point-next.ensures.partitioned (λ a r f k. search rules) in (
       λ t. cc,
-      λ held. absurd (none_sought rank this places next c.requires split c.in-None.ensures.lookup.3 place refl held),
+      λ held. absurd (none_sought rank this places next c.requires (before_point rank this places next split)
+          (after_point rank this places next split) c.in-None.ensures.lookup.3 place refl held),
     )
 
 -- the first that doesn't is this one, if any is
@@ -32,5 +33,6 @@ returns-in-Some c =
       λ inside.
           c.is_same.ensures.is.1
           (same_place p place c.is_same.ensures.fits c.is_same.ensures.other_fits
-          (rank_sought rank this places next c.requires split p found.1 place refl inside)),
+          (rank_sought rank this places next c.requires (before_point rank this places next split)
+          (after_point rank this places next split) p found.1 place refl inside)),
     )

@@ -55,7 +55,9 @@ returns c =
     let looked : c.has_any.result
     ≡ list_any (meets s.section (pair.head + 8) (pair.tail + 4 - (pair.head + 8))) (fields_of s.file (file_at files s.file)) =
     c.has_any.ensures
-    ∙ ap (λ (l : List (List ℕ)). list_any (meets s.section (pair.head + 8) (pair.tail + 4 - (pair.head + 8))) (fields_of file (file_at l file)))
+    ∙ ap (λ (l : List (List ℕ)). list_any (meets s.section (pair.head + 8) (pair.tail + 4 - (pair.head + 8)))
+    (fields_of file (file_at l file)))
     c.requires.same
-    ∙ ap (λ (f : ℕ). list_any (meets s.section (pair.head + 8) (pair.tail + 4 - (pair.head + 8))) (fields_of f (file_at files f))) (sym own) in
+    ∙ ap (λ (f : ℕ). list_any (meets s.section (pair.head + 8) (pair.tail + 4 - (pair.head + 8))) (fields_of f (file_at files f)))
+    (sym own) in
     free_case files pair s c.has_any.result place looked

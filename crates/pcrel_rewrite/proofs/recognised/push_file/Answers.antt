@@ -29,6 +29,7 @@ returns c =
     let files = c.args.resolved.now.files in
     let whole : set_refusal files ≡ None = ap set_refusal (sym c.set-set.ensures) ∙ c.file_count-files.ensures.whole in
     file_found files c.args.file whole c.requires c.in_ok-gathered.gathered.asked.items c.sort_heads.new.pairs.items c.deref-2.result.now
-    c.in_ok-gathered.gathered.loads.items c.sort_places.new.places.items c.deref.result.now c.in_ok-gathered.ensures.asked_are c.sort_heads.ensures.same
+    c.in_ok-gathered.gathered.loads.items c.sort_places.new.places.items c.deref.result.now c.in_ok-gathered.ensures.asked_are
+    c.sort_heads.ensures.same
     c.deref-2.ensures.value c.in_ok-gathered.ensures.loads_are c.sort_places.ensures.same c.deref.ensures.value c.args.found.now.items
     c.push_taken.new.found.items c.in_ok-push_taken.ensures

@@ -7,7 +7,8 @@ use Rattle.pcrel_rewrite.proofs.recognised.push_if_taken.Goals as goal
 -- each of the pairs is asked for
 pub is_taken-requires-clause-asked : goal.is_taken-requires-clause-asked
 is_taken-requires-clause-asked c =
-    c.requires.asked (slice_index_or c.args.asked.now c.args.i no_pair) (Contains-get_or c.args.asked.now c.args.i no_pair c.requires.within)
+    c.requires.asked (slice_index_or c.args.asked.now c.args.i no_pair)
+    (Contains-get_or c.args.asked.now c.args.i no_pair c.requires.within)
 
 -- one that is taken
 pub returns : goal.returns

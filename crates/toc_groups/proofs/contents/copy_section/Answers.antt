@@ -31,13 +31,16 @@ pub returns-then-is_empty-clause-copied : goal.returns-then-is_empty-clause-copi
 returns-then-is_empty-clause-copied c =
     let files = c.args.res.now.files in
     let whole = ap set_refusal (sym c.set-set.ensures) ∙ c.file_count-files.ensures.whole in
-    let file : c.view.result.now ≡ file_at files c.args.file = c.view.ensures ∙ ap (λ (s : List (List ℕ)). file_at s c.args.file) c.set-set.ensures in
+    let file : c.view.result.now ≡ file_at files c.args.file =
+    c.view.ensures ∙ ap (λ (s : List (List ℕ)). file_at s c.args.file) c.set-set.ensures in
     let bytes = ap (λ (l : List ℕ). length l) (c.section.ensures.bytes ∙ ap (λ (b : List ℕ). section_bytes b c.args.section) file) in
     let test = c.is_empty.ensures in
     let yes = c.if-is_empty.true in
     let none : length c.section.result.bytes.now ≡ 0 = grind (arith, nat_tests, test, yes) in
     copied_skip files c.args.plan.now.span c.args.file c.args.section (byte_of c.args.memory.now)
-    (λ stored some. omega (arith, some, bytes, none, stored_size files c.args.plan.now.span (section c.args.file c.args.section) whole stored))
+    (λ stored some.
+    let size = stored_size files c.args.plan.now.span (section c.args.file c.args.section) whole stored in
+    omega (arith, some, bytes, none, size))
     c.requires.before
 
 pub piece_address-address-requires : goal.piece_address-address-requires
@@ -50,7 +53,8 @@ put-requires-clause-room c =
     let files = c.args.res.now.files in
     let span = c.args.plan.now.span in
     let whole = ap set_refusal (sym c.set-set.ensures) ∙ c.file_count-files.ensures.whole in
-    let file : c.view.result.now ≡ file_at files c.args.file = c.view.ensures ∙ ap (λ (s : List (List ℕ)). file_at s c.args.file) c.set-set.ensures in
+    let file : c.view.result.now ≡ file_at files c.args.file =
+    c.view.ensures ∙ ap (λ (s : List (List ℕ)). file_at s c.args.file) c.set-set.ensures in
     let bytes = ap (λ (l : List ℕ). length l) (c.section.ensures.bytes ∙ ap (λ (b : List ℕ). section_bytes b c.args.section) file) in
     let is = sort_stored files c.args.plan.now.span c.set-set.result.now c.args.file c.args.section c.sort_of.result
     c.is_data_sort.result c.set-set.ensures c.sort_of.ensures c.is_data_sort.ensures c.if-not-is_data_sort.false c.requires.file
@@ -62,23 +66,26 @@ put-requires-clause-room c =
     let long : sh_size (file_at files c.args.file) c.args.section ≡ length c.section.result.bytes.now = omega (arith, bytes, size) in
     let range = stored_range files span c.args.file c.args.section whole c.requires.file c.requires.section is.sort
     (omega (arith, some, long)) in
-    let address : c.piece_address-address.result ≡ section_address files span c.args.file (file_at files c.args.file) c.args.section =
+    let at = section_address files span c.args.file (file_at files c.args.file) c.args.section in
+    let address : c.piece_address-address.result ≡ at =
     c.piece_address-address.ensures
     ∙ piece_is files span c.args.plan.now c.requires.plan (Section c.args.file c.args.section) (c.requires.file, c.requires.section) in
     subst (λ (e : DataEnds). HasRange e c.piece_address-address.result (length c.section.result.bytes.now))
     (sym (c.requires.ends ∙ c.requires.plan.ends))
     (subst (λ (a : ℕ). HasRange (data_ends files span) a (length c.section.result.bytes.now)) (sym address)
-    (subst (λ (n : ℕ). HasRange (data_ends files span) (section_address files span c.args.file (file_at files c.args.file) c.args.section) n) long range))
+    (subst (λ (n : ℕ). HasRange (data_ends files span) at n) long range))
 
 pub returns-clause-copied : goal.returns-clause-copied
 returns-clause-copied c =
     let files = c.args.res.now.files in
     let span = c.args.plan.now.span in
     let whole = ap set_refusal (sym c.set-set.ensures) ∙ c.file_count-files.ensures.whole in
-    let file : c.view.result.now ≡ file_at files c.args.file = c.view.ensures ∙ ap (λ (s : List (List ℕ)). file_at s c.args.file) c.set-set.ensures in
+    let file : c.view.result.now ≡ file_at files c.args.file =
+    c.view.ensures ∙ ap (λ (s : List (List ℕ)). file_at s c.args.file) c.set-set.ensures in
     let bytes : c.section.result.bytes.now ≡ section_bytes (file_at files c.args.file) c.args.section =
     c.section.ensures.bytes ∙ ap (λ (b : List ℕ). section_bytes b c.args.section) file in
-    let address : c.piece_address-address.result ≡ section_address files span c.args.file (file_at files c.args.file) c.args.section =
+    let at = section_address files span c.args.file (file_at files c.args.file) c.args.section in
+    let address : c.piece_address-address.result ≡ at =
     c.piece_address-address.ensures
     ∙ piece_is files span c.args.plan.now c.requires.plan (Section c.args.file c.args.section) (c.requires.file, c.requires.section) in
     let is = sort_stored files c.args.plan.now.span c.set-set.result.now c.args.file c.args.section c.sort_of.result
@@ -86,7 +93,6 @@ returns-clause-copied c =
     c.requires.section in
     copied_more files span c.args.file c.args.section (byte_of c.args.memory.now) (byte_of c.put.new.self) whole is
     (stored_size files span (section c.args.file c.args.section) whole is)
-    (subst (λ (l : List ℕ). Puts (byte_of c.args.memory.now) (section_address files span c.args.file (file_at files c.args.file) c.args.section) l
-    (byte_of c.put.new.self)) bytes
+    (subst (λ (l : List ℕ). Puts (byte_of c.args.memory.now) at l (byte_of c.put.new.self)) bytes
     (subst (λ (a : ℕ). Puts (byte_of c.args.memory.now) a c.section.result.bytes.now (byte_of c.put.new.self)) address c.put.ensures.puts))
     c.requires.before

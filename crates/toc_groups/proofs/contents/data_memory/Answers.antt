@@ -1,4 +1,5 @@
--- zeroed-requires: the ends are in order. put_slots-requires, fill_fields-requires: memory holds what was put before. returns: it holds all.
+-- zeroed-requires: the ends are in order. put_slots-requires, fill_fields-requires: memory holds what was put before. returns: it holds
+-- all.
 use Rattle.std.proofs.Common.{ap, sym, ◌∙◌}
 use Rattle.object_set.specs.Refusals.{set_refusal}
 use Rattle.toc_groups.specs.inside.Memory.{byte_of}
@@ -7,25 +8,11 @@ use Rattle.toc_groups.proofs.Filling.{slotted_none}
 use Rattle.toc_groups.proofs.Rooms.{ends_in_order}
 use Rattle.toc_groups.proofs.contents.data_memory.Goals as goal
 
-pub zeroed-requires-clause-first : goal.zeroed-requires-clause-first
-zeroed-requires-clause-first c =
-    (ends_in_order c.args.res.now.files c.args.plan.now.span c.ends.result (c.ends.ensures ∙ c.requires.plan_is.ends)
-    (ap set_refusal (sym c.set.ensures) ∙ c.file_count-files.ensures.whole) c.requires.plan_is.fits).first
-
-pub zeroed-requires-clause-order : goal.zeroed-requires-clause-order
-zeroed-requires-clause-order c =
-    (ends_in_order c.args.res.now.files c.args.plan.now.span c.ends.result (c.ends.ensures ∙ c.requires.plan_is.ends)
-    (ap set_refusal (sym c.set.ensures) ∙ c.file_count-files.ensures.whole) c.requires.plan_is.fits).order
-
-pub zeroed-requires-clause-last : goal.zeroed-requires-clause-last
-zeroed-requires-clause-last c =
-    (ends_in_order c.args.res.now.files c.args.plan.now.span c.ends.result (c.ends.ensures ∙ c.requires.plan_is.ends)
-    (ap set_refusal (sym c.set.ensures) ∙ c.file_count-files.ensures.whole) c.requires.plan_is.fits).last
-
-pub zeroed-requires-clause-limit : goal.zeroed-requires-clause-limit
-zeroed-requires-clause-limit c =
-    (ends_in_order c.args.res.now.files c.args.plan.now.span c.ends.result (c.ends.ensures ∙ c.requires.plan_is.ends)
-    (ap set_refusal (sym c.set.ensures) ∙ c.file_count-files.ensures.whole) c.requires.plan_is.fits).limit
+pub zeroed-requires : goal.zeroed-requires
+zeroed-requires c =
+    let ends = ends_in_order c.args.res.now.files c.args.plan.now.span c.ends.result (c.ends.ensures ∙ c.requires.plan_is.ends)
+    (ap set_refusal (sym c.set.ensures) ∙ c.file_count-files.ensures.whole) c.requires.plan_is.fits in
+    record { first = ends.first; order = ends.order; last = ends.last; limit = ends.limit }
 
 pub put_slots-requires-clause-before : goal.put_slots-requires-clause-before
 put_slots-requires-clause-before c =

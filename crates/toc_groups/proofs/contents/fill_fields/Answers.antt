@@ -1,8 +1,9 @@
 -- loop-file: at the start all files are left.
 use Rattle.std.proofs.Common.{◌≡◌, ◌-◌, length, ap, sym, ◌∙◌, arith}
 use Rattle.elf64_records.specs.First.{first_from}
+use Rattle.symbol_table.specs.laws.RecordWalk.{first_of_records}
+use Rattle.toc_groups.specs.Values.{data_overflow_at}
 use Rattle.toc_groups.specs.inside.Filled.{file_overflow}
-use Rattle.toc_groups.proofs.OverflowWalk.{overflow_first}
 use Rattle.toc_groups.proofs.contents.fill_fields.Goals as goal
 
 pub loop-file-init : goal.loop-file-init
@@ -14,5 +15,5 @@ loop-file-init c =
     record {
       ends = c.requires.ends;
       filled = c.requires.before;
-      left = ap (first_from (file_overflow files span text) 0) e ∙ sym (overflow_first files span text);
+      left = ap (first_from (file_overflow files span text) 0) e ∙ sym (first_of_records files (data_overflow_at files span text));
     }

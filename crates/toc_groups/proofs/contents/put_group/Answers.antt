@@ -23,7 +23,8 @@ pub returns-clause-slotted : goal.returns-clause-slotted
 returns-clause-slotted c =
     let files = c.args.res.now.files in
     let span = c.args.plan.now.span in
-    let read = slots_read files span c.args.plan.now c.requires.of_files.plan_is c.args.group c.group_slots-k-end.result.now c.requires.group
+    let read = slots_read files span c.args.plan.now c.requires.of_files.plan_is c.args.group c.group_slots-k-end.result.now
+    c.requires.group
     c.group_slots-k-end.ensures in
     let long = ap (λ (l : List SymbolId). length l) read in
     let all : c.loop-k.k ≡ length (group_slots files span c.args.group) = omega (arith, long, c.loop-k-test.false, c.loop-k.auto.k-end) in

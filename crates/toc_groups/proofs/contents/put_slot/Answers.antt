@@ -21,5 +21,6 @@ returns-clause-slotted c =
     slot_more files span c.args.text.now.sections c.args.group c.args.k c.slot_symbol-symbol.result old new
     (ap set_refusal (sym c.set.ensures) ∙ c.file_count-files.ensures.whole) c.slot_symbol-symbol.ensures.slot
     (subst (λ (x : ℕ). Puts old (slot_place files span c.args.group c.args.k) (little_bytes 8 x) new) c.symbol_address-address.ensures
-    (subst (λ (a : ℕ). Puts old a (little_bytes 8 c.symbol_address-address.result) new) c.slot_place.ensures.place c.put_number.ensures.puts))
+    (subst (λ (a : ℕ). Puts old a (little_bytes 8 c.symbol_address-address.result) new) c.slot_place.ensures.place
+    c.put_number.ensures.puts))
     c.requires.before

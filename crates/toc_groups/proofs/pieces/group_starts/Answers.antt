@@ -2,7 +2,7 @@
 use Rattle.std.proofs.Common.{◌∙◌, sym, subst}
 use Rattle.std.specs.List.{AllByRecursion}
 use Rattle.toc_groups.specs.Runs.{IsFitExtent}
-use Rattle.toc_groups.proofs.Placing.{rooms_fit}
+use Rattle.toc_groups.proofs.GroupPlaces.{rooms_fit}
 use Rattle.toc_groups.proofs.pieces.group_starts.Goals as goal
 
 pub push_places-requires-clause-fit : goal.push_places-requires-clause-fit

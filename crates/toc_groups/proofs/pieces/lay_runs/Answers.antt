@@ -1,17 +1,15 @@
 -- returns-in_err: a run that passes the end of data shows that data is too big. align_up-requires: a page's size is a power of two.
 -- returns-clause-runs: the runs are those of the data.
-use Rattle.std.proofs.Common.{◌≡◌, ◌≤◌, ℕ, List, map, inr, refl, ap, sym, subst, ◌∙◌, arith}
+use Rattle.std.proofs.Common.{◌≡◌, ◌≤◌, ℕ, inr, refl, ap, sym, ◌∙◌, arith}
 use Rattle.std.proofs.lemmas.Result.{err_from_is_err_and}
 use Rattle.object_set.specs.declared.sort.Sort.TheVariants.{Zeroed, Writable}
 use Rattle.toc_groups.specs.declared.extents.TheConstants.{DATA_END}
-use Rattle.toc_groups.specs.declared.groups.TocGroup.{TocGroup}
 use Rattle.toc_groups.specs.Runs.{run_end}
 use Rattle.toc_groups.specs.Sections.{sections_of}
 use Rattle.toc_groups.specs.Data.{read_only_end, writable_end, zeroed_end}
 use Rattle.toc_groups.specs.inside.Limits.{past_limit}
-use Rattle.toc_groups.specs.inside.Laid.{room_of, AreStarts}
 use Rattle.toc_groups.proofs.Laying.{within_limit}
-use Rattle.toc_groups.proofs.Running.{start_is, starts_are, in_order, refused, groups_past, runs_are}
+use Rattle.toc_groups.proofs.Running.{start_is, starts_behind, in_order, refused, groups_past, runs_are}
 use Rattle.toc_groups.proofs.pieces.lay_runs.Goals as goal
 
 pub returns-in_err-read_only-clause-refusal : goal.returns-in_err-read_only-clause-refusal
@@ -42,15 +40,12 @@ returns-in_err-zeroed_start-clause-refusal c =
     let files = c.args.set.now in
     let laid = c.args.laid.now in
     let order = in_order files laid.span c.requires.whole in
-    let start = start_is files laid.span c.in_ok-read_only.read_only c.align_up-writable_start.result c.in_ok-read_only.ensures.end
-    c.align_up-writable_start.ensures in
-    let starts : AreStarts c.align_up-writable_start.result (map room_of laid.groups.items) c.in_ok-groups.groups =
-    subst (λ (l : List TocGroup). AreStarts c.align_up-writable_start.result (map room_of l) c.in_ok-groups.groups) c.as_slice.ensures.value
+    let both = starts_behind files laid.span laid c.in_ok-read_only.read_only c.align_up-writable_start.result c.as_slice.result.now
+    c.in_ok-groups.groups c.requires.groups c.in_ok-read_only.ensures.end c.align_up-writable_start.ensures c.as_slice.ensures.value
     c.in_ok-groups.ensures.starts in
-    let end = (starts_are files laid.span laid c.align_up-writable_start.result c.in_ok-groups.groups c.requires.groups start starts).1 in
     rw (p.1, p.2) (inr (refused files laid.span (writable_end files laid.span) c.in_err-zeroed_start.field-0.0
     (omega (arith, order.zeroed, order.commons))
-    (sym (ap (λ (e : ℕ). past_limit (run_end e (sections_of files Writable))) end) ∙ c.in_err-zeroed_start.ensures.refusal)))
+    (sym (ap (λ (e : ℕ). past_limit (run_end e (sections_of files Writable))) both.1) ∙ c.in_err-zeroed_start.ensures.refusal)))
 
 pub returns-in_err-zeroed-clause-refusal : goal.returns-in_err-zeroed-clause-refusal
 returns-in_err-zeroed-clause-refusal c =
@@ -58,14 +53,11 @@ returns-in_err-zeroed-clause-refusal c =
     let files = c.args.set.now in
     let laid = c.args.laid.now in
     let order = in_order files laid.span c.requires.whole in
-    let start = start_is files laid.span c.in_ok-read_only.read_only c.align_up-writable_start.result c.in_ok-read_only.ensures.end
-    c.align_up-writable_start.ensures in
-    let starts : AreStarts c.align_up-writable_start.result (map room_of laid.groups.items) c.in_ok-groups.groups =
-    subst (λ (l : List TocGroup). AreStarts c.align_up-writable_start.result (map room_of l) c.in_ok-groups.groups) c.as_slice.ensures.value
+    let both = starts_behind files laid.span laid c.in_ok-read_only.read_only c.align_up-writable_start.result c.as_slice.result.now
+    c.in_ok-groups.groups c.requires.groups c.in_ok-read_only.ensures.end c.align_up-writable_start.ensures c.as_slice.ensures.value
     c.in_ok-groups.ensures.starts in
-    let end = (starts_are files laid.span laid c.align_up-writable_start.result c.in_ok-groups.groups c.requires.groups start starts).1 in
     let zeroed : c.in_ok-zeroed_start.zeroed_start ≡ writable_end files laid.span =
-    c.in_ok-zeroed_start.ensures.end ∙ ap (λ (e : ℕ). run_end e (sections_of files Writable)) end in
+    c.in_ok-zeroed_start.ensures.end ∙ ap (λ (e : ℕ). run_end e (sections_of files Writable)) both.1 in
     rw (p.1, p.2) (inr (refused files laid.span (zeroed_end files laid.span) c.in_err-zeroed.field-0.0 order.commons
     (sym (ap (λ (e : ℕ). past_limit (run_end e (sections_of files Zeroed))) zeroed) ∙ c.in_err-zeroed.ensures.refusal)))
 
@@ -73,12 +65,9 @@ pub returns-clause-runs : goal.returns-clause-runs
 returns-clause-runs c =
     let files = c.args.set.now in
     let laid = c.args.laid.now in
-    let start = start_is files laid.span c.in_ok-read_only.read_only c.align_up-writable_start.result c.in_ok-read_only.ensures.end
-    c.align_up-writable_start.ensures in
-    let starts : AreStarts c.align_up-writable_start.result (map room_of laid.groups.items) c.in_ok-groups.groups =
-    subst (λ (l : List TocGroup). AreStarts c.align_up-writable_start.result (map room_of l) c.in_ok-groups.groups) c.as_slice.ensures.value
+    let both = starts_behind files laid.span laid c.in_ok-read_only.read_only c.align_up-writable_start.result c.as_slice.result.now
+    c.in_ok-groups.groups c.requires.groups c.in_ok-read_only.ensures.end c.align_up-writable_start.ensures c.as_slice.ensures.value
     c.in_ok-groups.ensures.starts in
-    let both = starts_are files laid.span laid c.align_up-writable_start.result c.in_ok-groups.groups c.requires.groups start starts in
     let zeroed_start : c.in_ok-zeroed_start.zeroed_start ≡ writable_end files laid.span =
     c.in_ok-zeroed_start.ensures.end ∙ ap (λ (e : ℕ). run_end e (sections_of files Writable)) both.1 in
     let zeroed : c.in_ok-zeroed.zeroed ≡ zeroed_end files laid.span =
@@ -86,4 +75,6 @@ returns-clause-runs c =
     let zeroed_low = within_limit (run_end c.in_ok-zeroed_start.zeroed_start (sections_of files Zeroed)) c.in_ok-zeroed.ensures.refusal in
     runs_are files laid.span c.in_ok-groups.groups.starts c.in_ok-read_only.read_only c.align_up-writable_start.result
     c.in_ok-groups.groups.end c.in_ok-zeroed_start.zeroed_start c.in_ok-zeroed.zeroed c.requires.whole both.0 c.in_ok-read_only.ensures.end
-    start both.1 zeroed_start zeroed (let low : c.in_ok-zeroed.zeroed ≤ DATA_END = omega (arith, zeroed_low, c.in_ok-zeroed.ensures.end) in low)
+    (start_is files laid.span c.in_ok-read_only.read_only c.align_up-writable_start.result c.in_ok-read_only.ensures.end
+    c.align_up-writable_start.ensures) both.1 zeroed_start zeroed
+    (let low : c.in_ok-zeroed.zeroed ≤ DATA_END = omega (arith, zeroed_low, c.in_ok-zeroed.ensures.end) in low)

@@ -1,4 +1,5 @@
--- place-requires-clause-fit: each piece is fit. returns-in_err-place: a piece that passes the end of data. loop-k-preserved: one piece more.
+-- place-requires-clause-fit: each piece is fit. returns-in_err-place: a piece that passes the end of data. loop-k-preserved: one piece
+-- more.
 use Rattle.std.proofs.Common.{◌<◌, length, get_or, inr, arith}
 use Rattle.toc_groups.specs.declared.extents.Extent.{Extent}
 use Rattle.std.proofs.lemmas.Result.{err_from_is_err_and}

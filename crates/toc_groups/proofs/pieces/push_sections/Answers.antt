@@ -11,7 +11,9 @@ use Rattle.toc_groups.specs.Groups.{group_number}
 use Rattle.toc_groups.specs.Sections.{section_extent}
 use Rattle.toc_groups.specs.Data.{address_walk, section_address}
 use Rattle.toc_groups.specs.inside.Laid.{HasRoom, AreEndsAt, ends_after, address_after}
-use Rattle.toc_groups.proofs.Placing.{file_number, start_read, start_is_low, group_there, whole_read, few_there, file_begins, file_ends, ends_next, address_there, address_more, has_room}
+use Rattle.toc_groups.proofs.Placing.{ends_next, address_there, has_room}
+use Rattle.toc_groups.proofs.ReadPlaces.{file_number, start_read, start_is_low, group_there, whole_read, few_there, address_more}
+use Rattle.toc_groups.proofs.FileEnds.{file_begins, file_ends}
 use Rattle.toc_groups.proofs.pieces.push_sections.Goals as goal
 
 pub index-requires : goal.index-requires
@@ -28,7 +30,11 @@ index-requires-2 c =
     let files = c.args.set.now in
     let number = file_number files laid.span laid.numbers.items c.args.file c.index.result.now c.requires.groups.numbers_are
     c.requires.file c.index.ensures in
-    omega (arith, group_there files laid.span laid c.args.file c.index.result.now c.requires.groups c.requires.file number, laid.groups.ok.0)
+    omega (
+      arith,
+      group_there files laid.span laid c.args.file c.index.result.now c.requires.groups c.requires.file number,
+      laid.groups.ok.0,
+    )
 
 pub toc_start-ends-requires : goal.toc_start-ends-requires
 toc_start-ends-requires c =
@@ -97,7 +103,8 @@ loop-section-preserved c =
     let sort = c.sort_of-sort.result in
     let address : c.lay_section.result ≡ section_address files laid.span file (file_at files file) i =
     c.lay_section.ensures.address
-    ∙ ap (λ (e : Extent). address_after e (get_or c.args.starts.now c.index.result.now 0) c.loop-section.ends sort) c.section_extent-room.ensures
+    ∙ ap (λ (e : Extent). address_after e (get_or c.args.starts.now c.index.result.now 0) c.loop-section.ends sort)
+    c.section_extent-room.ensures
     ∙ address_there files laid.span file i (get_or c.args.starts.now c.index.result.now 0) c.loop-section.ends sort before.ends
     (sym c.sort_of-sort.ensures) start in
     let ends : c.lay_section.new.ends ≡ ends_after piece c.loop-section.ends sort =

@@ -1,7 +1,7 @@
 -- loop-file-preserved: one file more. returns: all files.
 use Rattle.std.proofs.Common.{◌≡◌, ℕ, length, subst, arith}
 use Rattle.toc_groups.specs.inside.Laid.{AreAddresses}
-use Rattle.toc_groups.proofs.Placing.{first_more, file_more}
+use Rattle.toc_groups.proofs.ReadPlaces.{first_more, file_more}
 use Rattle.toc_groups.proofs.pieces.section_addresses.Goals as goal
 
 pub loop-file-preserved : goal.loop-file-preserved

@@ -31,5 +31,6 @@ returns c =
     let count = c.record_count-entry-end.ensures ∙ ap (λ (l : List ℕ). record_count l table) c.view-view.ensures
     ∙ ap (λ (s : List (List ℕ)). record_count (file_at s file) table) c.set.ensures in
     let all : c.loop-entry.entry ≡ record_count (file_at files file) table = omega (arith, count) in
-    subst (λ (n : ℕ). Gathers (Before (AskedAt files file table) n) (Before (LoadedAt files file table) n) c.args.self.now c.loop-entry.self)
+    subst (λ (n : ℕ). Gathers (Before (AskedAt files file table) n) (Before (LoadedAt files file table) n) c.args.self.now
+    c.loop-entry.self)
     all c.loop-entry.invariant

@@ -9,24 +9,18 @@ use Rattle.toc_groups.proofs.Positions.{any-from_none, any-from_some}
 use Rattle.toc_groups.proofs.Numbering.{looked_up, unnumbered, made_slots, made_number, with_old}
 use Rattle.toc_groups.proofs.slots.GroupSlots.number.Goals as goal
 
-pub returns-then-is_local-clause-slots : goal.returns-then-is_local-clause-slots
-returns-then-is_local-clause-slots c =
+pub returns-then-is_local : goal.returns-then-is_local
+returns-then-is_local c =
     let l = c.args.self.now in
     let s = c.args.symbol in
     let own : is_local (file_at l.files s.file) s.symbol ≡ true =
     subst (λ (m : SlotList). is_local (file_at m.files s.file) s.symbol ≡ true) c.self.view_is
     (sym c.is_local.ensures ∙ c.if-is_local.true) in
-    made_slots c.push.result l.files l.slots s c.push.new.self (unnumbered l.files l.slots s own (c.requires.own own)) c.push.ensures.slots
-
-pub returns-then-is_local-clause-number : goal.returns-then-is_local-clause-number
-returns-then-is_local-clause-number c =
-    let l = c.args.self.now in
-    let s = c.args.symbol in
-    let own : is_local (file_at l.files s.file) s.symbol ≡ true =
-    subst (λ (m : SlotList). is_local (file_at m.files s.file) s.symbol ≡ true) c.self.view_is
-    (sym c.is_local.ensures ∙ c.if-is_local.true) in
-    made_number c.push.result l.files l.slots s c.push.new.self (unnumbered l.files l.slots s own (c.requires.own own))
-    c.push.ensures.slots c.push.ensures.number
+    let none = unnumbered l.files l.slots s own (c.requires.own own) in
+    record {
+      slots = made_slots c.push.result l.files l.slots s c.push.new.self none c.push.ensures.slots;
+      number = made_number c.push.result l.files l.slots s c.push.new.self none c.push.ensures.slots c.push.ensures.number;
+    }
 
 pub push_named-requires-clause-new : goal.push_named-requires-clause-new
 push_named-requires-clause-new c =
@@ -36,36 +30,27 @@ push_named-requires-clause-new c =
     c.view.result.now c.symbol.result.name.now c.self.invariant c.self.view_is c.is_local.ensures c.if-is_local.false c.view.ensures
     c.symbol.ensures.name (c.in-None.ensures ∙ c.get.ensures.value))
 
-pub returns-in-Some-clause-slots : goal.returns-in-Some-clause-slots
-returns-in-Some-clause-slots c =
+pub returns-in-Some : goal.returns-in-Some
+returns-in-Some c =
     let l = c.args.self.now in
     let found = looked_up c.self.inside.set.now c.self.inside.symbols.items c.self.inside.names l c.args.symbol c.is_local.result
     (Some c.in-Some.number) c.view.result.now c.symbol.result.name.now c.self.invariant c.self.view_is c.is_local.ensures
     c.if-is_local.false c.view.ensures c.symbol.ensures.name (c.in-Some.ensures ∙ c.get.ensures.value) in
-    ap (slot_list l.files) (sym (with_old l.files l.slots c.args.symbol
-    (any-from_some (shares_slot l.files c.args.symbol) l.slots c.in-Some.number found)))
+    record {
+      slots = ap (slot_list l.files) (sym (with_old l.files l.slots c.args.symbol
+          (any-from_some (shares_slot l.files c.args.symbol) l.slots c.in-Some.number found)));
+      number = found;
+    }
 
-pub returns-in-Some-clause-number : goal.returns-in-Some-clause-number
-returns-in-Some-clause-number c =
-    looked_up c.self.inside.set.now c.self.inside.symbols.items c.self.inside.names c.args.self.now c.args.symbol c.is_local.result
-    (Some c.in-Some.number) c.view.result.now c.symbol.result.name.now c.self.invariant c.self.view_is c.is_local.ensures
-    c.if-is_local.false c.view.ensures c.symbol.ensures.name (c.in-Some.ensures ∙ c.get.ensures.value)
-
-pub returns-in-None-clause-slots : goal.returns-in-None-clause-slots
-returns-in-None-clause-slots c =
+pub returns-in-None : goal.returns-in-None
+returns-in-None c =
     let l = c.args.self.now in
     let none = any-from_none (shares_slot l.files c.args.symbol) l.slots
     (looked_up c.self.inside.set.now c.self.inside.symbols.items c.self.inside.names l c.args.symbol c.is_local.result None
     c.view.result.now c.symbol.result.name.now c.self.invariant c.self.view_is c.is_local.ensures c.if-is_local.false c.view.ensures
     c.symbol.ensures.name (c.in-None.ensures ∙ c.get.ensures.value)) in
-    made_slots c.push_named.result l.files l.slots c.args.symbol c.push_named.new.self none c.push_named.ensures.slots
-
-pub returns-in-None-clause-number : goal.returns-in-None-clause-number
-returns-in-None-clause-number c =
-    let l = c.args.self.now in
-    let none = any-from_none (shares_slot l.files c.args.symbol) l.slots
-    (looked_up c.self.inside.set.now c.self.inside.symbols.items c.self.inside.names l c.args.symbol c.is_local.result None
-    c.view.result.now c.symbol.result.name.now c.self.invariant c.self.view_is c.is_local.ensures c.if-is_local.false c.view.ensures
-    c.symbol.ensures.name (c.in-None.ensures ∙ c.get.ensures.value)) in
-    made_number c.push_named.result l.files l.slots c.args.symbol c.push_named.new.self none c.push_named.ensures.slots
-    c.push_named.ensures.number
+    record {
+      slots = made_slots c.push_named.result l.files l.slots c.args.symbol c.push_named.new.self none c.push_named.ensures.slots;
+      number = made_number c.push_named.result l.files l.slots c.args.symbol c.push_named.new.self none c.push_named.ensures.slots
+          c.push_named.ensures.number;
+    }

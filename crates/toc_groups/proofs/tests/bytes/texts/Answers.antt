@@ -22,7 +22,8 @@ group-requires-clause-sound g c =
       sections = record {
         few = omega (arith, ap length items, length-replicate c.args.count one, c.requires.few);
         each = λ s lt. subst IsSoundSection (sym (ap (λ (xs : List ShapeSection). section_of xs s) items
-            ∙ get_or-replicate c.args.count s one no_section (omega (arith, lt, ap length items, length-replicate c.args.count one)))) one_sound;
+            ∙ get_or-replicate c.args.count s one no_section (omega (arith, lt, ap length items, length-replicate c.args.count one))))
+            one_sound;
       };
       few_sites = omega (arith, none);
       from = λ i lt. absurd (omega (arith, lt, none));

@@ -20,7 +20,8 @@ target-requires-clause-stands c =
     subst IsSome
     (ap (λ (s : ℕ). target_of files id.file s (facts_of files id).addend) (sym c.facts-rela.ensures.symbol)
     ∙ ap (target_of files id.file rela.symbol) (sym same)
-    ∙ ap (λ (f : List (List ℕ)). target_of f id.file rela.symbol (to_z w64 (of_z w64 rela.addend))) (sym c.resolved-res.ensures.files)) there
+    ∙ ap (λ (f : List (List ℕ)). target_of f id.file rela.symbol (to_z w64 (of_z w64 rela.addend))) (sym c.resolved-res.ensures.files))
+    there
 
 pub returns-clause-known : goal.returns-clause-known
 returns-clause-known c =
