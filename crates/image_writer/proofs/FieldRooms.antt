@@ -18,6 +18,7 @@ use Rattle.symbol_table.specs.laws.Sections.{record_about}
 use Rattle.symbol_table.specs.laws.Records.{IsSoundField, records_sound}
 use Rattle.call_sites.specs.declared.site.CallSite.{CallSite}
 use Rattle.call_sites.specs.laws.TextSizes.{text_whole}
+use Rattle.toc_groups.specs.PlacedData.{IsPlacedData}
 use Rattle.toc_groups.specs.Plans.{LaidData}
 use Rattle.toc_groups.specs.Values.{section_place, field_address}
 use Rattle.toc_groups.specs.Data.{section_address as data_address}
@@ -27,12 +28,12 @@ use Rattle.layout_rounds.specs.Layout.{PlacedText, section_count, text_end}
 use Rattle.image_writer.specs.Text.{text_section, no_section}
 use Rattle.image_writer.specs.Fields.{text_kind}
 use Rattle.image_writer.specs.Job.{IsJob}
-use Rattle.image_writer.specs.inside.Ready.{HasFieldRoom}
+use Rattle.image_writer.specs.inside.Ready.{HasFieldRoom, AreTextAddresses}
 use Rattle.image_writer.proofs.Fielding.{text_field}
-use Rattle.image_writer.proofs.Room.{LayoutGives, section_count_is, start_is, size_is, text_low}
+use Rattle.image_writer.proofs.Room.{LayoutGives, section_count_is, start_is, size_is, section_from, text_low}
 
 -- a field has four or eight bytes
-wide : (k : Kind) → 0 < (line_of k).width → ((line_of k).width ≡ 4) ⊎ ((line_of k).width ≡ 8)
+pub wide : (k : Kind) → 0 < (line_of k).width → ((line_of k).width ≡ 4) ⊎ ((line_of k).width ≡ 8)
 wide = elim [
   | kind.None ↦ λ some. absurd (omega (arith, some))
   | kind.Tocsave ↦ λ some. absurd (omega (arith, some))
@@ -92,4 +93,21 @@ module _ (files : List (List ℕ)) (plan : LaidData) (sites : List CallSite) (t 
         within = omega (arith, sound.within, stored);
         from = omega (arith, lies.from, at, start, address);
         room = omega (arith, lies.from, at, start, address, sum);
+        rest = omega (arith, lies.from, lies.to, at, start, address, size);
+      }
+
+  -- text sections lie behind the start of the image, below where text ends at the latest
+  pub text_addresses : IsPlacedData files plan.span → AreTextAddresses places.sections
+  text_addresses placed =
+      let low = text_low files plan sites t far places whole job gives in
+      let begins = job.plan_is.text_start in
+      let least = placed.text_from in
+      record {
+        from = λ s lt.
+            (let from = section_from files plan sites t far places whole job gives s lt in omega (arith, from, begins, least));
+        low = λ s lt.
+            (let within : s < section_count t = omega (arith, lt, job.laid.section_count_is) in
+            let lies = gives.sections s within in
+            let at = job.laid.sections s within in
+            omega (arith, lies.to, at, low));
       }

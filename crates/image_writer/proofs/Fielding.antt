@@ -1,13 +1,10 @@
 -- The bytes of a field are those of its number.
-use Rattle.std.proofs.Common.{ℕ, ℤ, ◌≡◌, ◌≢◌, ◌<◌, Bool, true, false, not, ◌||◌, ◌==◌, if◌then◌else◌, List, Option, None, Some, is_some, ap, sym, ◌∙◌, subst, refl, arith}
+use Rattle.std.proofs.Common.{ℕ, ℤ, ◌≡◌, ◌≢◌, ◌<◌, Bool, true, false, ◌||◌, ◌==◌, if◌then◌else◌, List, Option, None, Some, is_some, ap, ◌∙◌, subst, refl, arith}
 use Rattle.std.proofs.lemmas.Bool.Decides.{nat_tests}
-use Rattle.elf64_records.specs.First.{when}
 use Rattle.object_set.specs.Sections.{is_text}
-use Rattle.object_set.specs.declared.refusal.Refusal.TheVariants.{Overflow}
 use Rattle.symbol_table.specs.Fields.{kind_numbered}
-use Rattle.symbol_table.specs.Records.{site_of}
 use Rattle.call_sites.specs.Sites.{linkage_of}
-use Rattle.image_writer.specs.Fields.{plain_kind, text_kind, text_overflow_at}
+use Rattle.image_writer.specs.Fields.{plain_kind, text_kind}
 use Rattle.byteorder.specs.Endian.{little_bytes}
 use Rattle.ppc_bytes.specs.Bytes.{number_at}
 use Rattle.elf64_records.specs.Records.{rela_of}
@@ -16,7 +13,7 @@ use Rattle.object_set.specs.declared.places.RecordId.{RecordId}
 use Rattle.object_set.specs.Files.{file_at}
 use Rattle.reloc_fields.specs.declared.kind.Kind.{Kind}
 use Rattle.reloc_fields.specs.Table.{line_of, filled}
-use Rattle.toc_groups.specs.Values.{record_value, passes, kind_overflow}
+use Rattle.toc_groups.specs.Values.{record_value}
 use Rattle.toc_groups.specs.Contents.{field_bytes}
 
 module _ (files : List (List ℕ)) (span : ℕ) (text : List ℕ) (r : RecordId) (kind : Kind) where
@@ -67,37 +64,3 @@ text_case files r k false test is = cc
 pub text_field : (files : List (List ℕ)) (r : RecordId) (k : Kind) → text_kind files r ≡ Some k → IsTextField files r k
 unfolding text_kind
 text_field files r k is = text_case files r k (is_text (file_at files r.file) r.section) refl is
-
--- ---- overflows
-
-module _ (files : List (List ℕ)) (span : ℕ) (text : List ℕ) (r : RecordId) where
-  pub none_overflows : text_kind files r ≡ None → text_overflow_at files span text r ≡ None
-  unfolding text_overflow_at
-  none_overflows is = ap (kind_overflow files span text r) is
-
-  test_of : (k : Kind) (v : ℤ) (t : Bool) → v ≡ record_value files span text r k → t ≡ passes (line_of k).check v →
-      passes (line_of k).check (record_value files span text r k) ≡ t
-  test_of k v t value test = ap (passes (line_of k).check) (sym value) ∙ sym test
-
-  kind_told : (k : Kind) (v : ℤ) (t : Bool) → v ≡ record_value files span text r k → t ≡ passes (line_of k).check v →
-      kind_overflow files span text r (Some k)
-      ≡ when (not t) (Overflow (site_of (file_at files r.file) r) (record_value files span text r k))
-  kind_told k v t value test =
-      ap (λ (b : Bool). when (not b) (Overflow (site_of (file_at files r.file) r) (record_value files span text r k)))
-      (test_of k v t value test)
-
-  pub field_holds : (k : Kind) (v : ℤ) (t : Bool) → text_kind files r ≡ Some k → v ≡ record_value files span text r k →
-      t ≡ passes (line_of k).check v → t ≡ true → text_overflow_at files span text r ≡ None
-  unfolding text_overflow_at
-  field_holds k v t is value test holds =
-      ap (kind_overflow files span text r) is ∙ kind_told k v t value test
-      ∙ ap (λ (b : Bool). when (not b) (Overflow (site_of (file_at files r.file) r) (record_value files span text r k))) holds
-
-  pub field_fails : (k : Kind) (v : ℤ) (t : Bool) → text_kind files r ≡ Some k → v ≡ record_value files span text r k →
-      t ≡ passes (line_of k).check v → t ≡ false →
-      text_overflow_at files span text r ≡ Some (Overflow (site_of (file_at files r.file) r) v)
-  unfolding text_overflow_at
-  field_fails k v t is value test fails =
-      ap (kind_overflow files span text r) is ∙ kind_told k v t value test
-      ∙ ap (λ (b : Bool). when (not b) (Overflow (site_of (file_at files r.file) r) (record_value files span text r k))) fails
-      ∙ ap (λ (x : ℤ). Some (Overflow (site_of (file_at files r.file) r) x)) (sym value)

@@ -4,6 +4,7 @@ use Rattle.std.specs.Prelude.{pos, ◌-ℤ◌}
 use Rattle.ppc_bytes.specs.Bytes.{InSigned}
 use Rattle.stub_kinds.specs.Stubs.{BranchReaches}
 use Rattle.call_sites.specs.declared.site.CallSite.{CallSite}
+use Rattle.toc_groups.specs.PlacedData.{IsPlacedData}
 use Rattle.toc_groups.specs.Plans.{LaidData}
 use Rattle.layout_rounds.specs.declared.shape.Shape.{Shape}
 use Rattle.layout_rounds.specs.declared.shape.ShapeSite.{ShapeSite}
@@ -16,7 +17,7 @@ use Rattle.image_writer.specs.Job.{IsJob}
 use Rattle.object_set.specs.Refusals.{set_refusal}
 use Rattle.image_writer.specs.inside.Ready.{HasRooms}
 use Rattle.image_writer.proofs.Room.{LayoutGives, section_count_is, start_is, places_count, section_from, section_to, stub_ready, stub_room, call_ready, call_room}
-use Rattle.image_writer.proofs.FieldRooms.{field_room}
+use Rattle.image_writer.proofs.FieldRooms.{field_room, text_addresses}
 use Rattle.image_writer.specs.Calls.{call_at, no_call}
 use Rattle.symbol_table.specs.Records.{records_refusal}
 use Rattle.call_sites.specs.Sites.{call_sites}
@@ -71,8 +72,8 @@ each_sound files groups sites whole none are i lt =
 pub rooms : (files : List (List ℕ)) (plan : LaidData) (sites : List CallSite) (t : KeyedText) (far : List Bool) (places : PlacedText)
     (whole : set_refusal files ≡ None) (job : IsJob files plan sites t far places) →
     LayoutGives t job.shape.sites.items job.span (member far) → ((file : ℕ) → slice_index plan.bases file < 0x60000000) →
-    HasRooms files plan sites t far places
-rooms files plan sites t far places whole job gives low =
+    IsPlacedData files plan.span → HasRooms files plan sites t far places
+rooms files plan sites t far places whole job gives low placed =
     let least = text_least t (member far) in
     let sound : (i : ℕ) → i < length sites → IsSoundSite files plan.groups (call_at sites i) =
     λ i lt. each_sound files plan.groups sites whole job.records job.sites_are i lt in
@@ -89,5 +90,6 @@ rooms files plan sites t far places whole job gives low =
       room = stub_room files plan sites t far places whole job gives;
       calls_ready = λ i lt. call_ready files plan sites t far places whole job gives low i lt (sound i lt);
       calls_room = λ i lt. call_room files plan sites t far places whole job gives low i lt (sound i lt);
+      addresses = text_addresses files plan sites t far places whole job gives placed;
       fields_room = field_room files plan sites t far places whole job gives;
     }

@@ -10,3 +10,13 @@ pub mod Room
 pub mod Fielding
 pub mod FieldRooms
 pub mod Giving
+pub mod AccessWords
+pub mod Slots
+pub mod Finding
+pub mod Naming
+pub mod PlainTexts
+pub mod Checking
+pub mod TextFields
+pub mod Folding
+pub mod Loads
+pub mod LaidAddresses

@@ -2,12 +2,16 @@
 use Rattle.std.proofs.Common.{ℕ, zero, suc, ◌≡◌, ◌<◌, ◌+◌, Bool, true, false, cond, Option, Some, List, length, ap, arith}
 use Rattle.std.specs.List.{find, range_with_len}
 use Rattle.layout_rounds.specs.declared.shape.Shape.{Shape}
+use Rattle.layout_rounds.specs.declared.settling.LayoutFault.{LayoutFault}
 use Rattle.layout_rounds.specs.declared.settling.LayoutFault.TheVariants.{StubReach}
 use Rattle.layout_rounds.specs.declared.shape.ShapeSite.{ShapeSite}
 use Rattle.layout_rounds.specs.Reach.{IsFarSet}
 use Rattle.layout_rounds.specs.Settled.{is_out, IsRefused}
 use Rattle.layout_rounds.specs.Shapes.{keyed_text}
 use Rattle.call_sites.specs.declared.site.CallSite.{CallSite}
+use Rattle.toc_groups.specs.Plans.{LaidData}
+use Rattle.image_writer.specs.Job.{IsShapeOf}
+use Rattle.image_writer.specs.LaidText.{IsRefusedJob}
 use Rattle.image_writer.specs.JobShape.{classed_sites, shape_sites}
 use Rattle.image_writer.proofs.Sited.{sites_count}
 
@@ -35,3 +39,10 @@ call_within sites shape span i are far refused =
     let all = sites_count sites in
     let count = ap (λ (l : List ShapeSite). length l) are in
     omega (arith, within, all, count)
+
+-- a refusal for each far set is one for the far set that there is
+pub refused_job : (files : List (List ℕ)) (plan : LaidData) (sites : List CallSite) (span : ℕ) (shape : Shape) (why : LayoutFault) →
+    IsShapeOf files plan sites shape → (F : ℕ → Bool) × IsFarSet shape span F → IsRefused shape span why →
+    IsRefusedJob files plan sites span why
+refused_job files plan sites span shape why is far refused =
+    record { shape = shape; far = far.0; shape_is = is; far_is = far.1; refused = refused far.0 far.1 }

@@ -1,4 +1,4 @@
--- What relocation records put into a text: their fields, with their values (ELFv2 ABI, "Relocation Types").
+-- Fields of relocation records in a text, with their values, where nothing is rewritten (ELFv2 ABI, "Relocation Types").
 use Rattle.std.specs.Prelude.{ℕ, ◌-◌, List, [], ◌∷◌, ◌||◌, ◌==◌, Option, None, Some, is_some, flat_map, if◌then◌else◌}
 use Rattle.elf64_records.specs.First.{first_in}
 use Rattle.elf64_records.specs.Records.{rela_of}
@@ -41,9 +41,9 @@ module _ (files : List (List ℕ)) (span : ℕ) (text : List ℕ) where
   field_patches start = flat_map (field_patch start) (all_items record_walk files)
 
   -- a record in text whose field doesn't hold its value
-  unfoldable pub text_overflow_at : RecordId → Option Refusal
-  text_overflow_at r = kind_overflow files span text r (text_kind files r)
+  unfoldable pub field_overflow_at : RecordId → Option Refusal
+  field_overflow_at r = kind_overflow files span text r (text_kind files r)
 
   -- the first in record order
-  abbrev pub text_overflow : Option Refusal
-  text_overflow = first_in text_overflow_at (all_items record_walk files)
+  abbrev pub field_overflow : Option Refusal
+  field_overflow = first_in field_overflow_at (all_items record_walk files)

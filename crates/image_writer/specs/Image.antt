@@ -1,5 +1,5 @@
--- The bytes of a job's text: zeros with its sections and stubs at their addresses, and over them the branches of calls and the fields of
--- all other records. No two of these that lie over one another have a byte in common, so that the order tells nothing.
+-- The bytes of a job's text: zeros with its sections and stubs at their addresses, and over them the branches of calls and what all
+-- other records put. No two of these that lie over one another have a byte in common, so that the order tells nothing.
 use Rattle.std.specs.Prelude.{ℕ, ◌-◌, Bool, List, replicate}
 use Rattle.call_sites.specs.declared.site.CallSite.{CallSite}
 use Rattle.toc_groups.specs.Plans.{LaidData}
@@ -9,6 +9,8 @@ use Rattle.placed_bytes.specs.Patches.{all_patched}
 use Rattle.image_writer.specs.Text.{section_patches, stub_patches}
 use Rattle.image_writer.specs.Calls.{call_patches}
 use Rattle.image_writer.specs.Fields.{field_patches}
+use Rattle.image_writer.specs.Records.{record_patches}
+use Rattle.image_writer.specs.Rewriting.{Rewriting}
 
 module _ (files : List (List ℕ)) (plan : LaidData) (sites : List CallSite) (t : KeyedText) (F : ℕ → Bool) (p : PlacedText) where
   -- zeros, from the start of text to its end
@@ -25,6 +27,10 @@ module _ (files : List (List ℕ)) (plan : LaidData) (sites : List CallSite) (t 
   abbrev pub text_with_calls : List ℕ
   text_with_calls = all_patched text_with_sections (call_patches files plan.bases t F p plan.text_start sites)
 
-  -- with all other fields
-  abbrev pub text_image : List ℕ
-  text_image = all_patched text_with_calls (field_patches files plan.span p.sections plan.text_start)
+  -- with what all other records put, where this is rewritten
+  abbrev pub text_image : Rewriting → List ℕ
+  text_image w = all_patched text_with_calls (record_patches files plan.span p.sections w plan.text_start)
+
+  -- and with their fields, where nothing is
+  abbrev pub plain_text : List ℕ
+  plain_text = all_patched text_with_calls (field_patches files plan.span p.sections plan.text_start)

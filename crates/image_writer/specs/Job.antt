@@ -1,9 +1,13 @@
 -- A job whose text is laid out for a closed set of far keys.
-use Rattle.std.specs.Prelude.{ℕ, ◌≡◌, ◌+◌, ◌<◌, ◌≤◌, Bool, true, None, List, length}
+use Rattle.std.specs.Prelude.{ℕ, ◌≡◌, ◌+◌, ◌<◌, ◌≤◌, Bool, true, None, List, length, slice_index}
 use Rattle.ppc_bytes.specs.declared.constants.TheConstants.{TEXT_LIMIT}
+use Rattle.elf64_records.specs.Sections.{section_bytes}
+use Rattle.object_set.specs.Files.{file_at}
 use Rattle.symbol_table.specs.Records.{records_refusal}
+use Rattle.symbol_table.specs.Text.{text_sections}
 use Rattle.toc_groups.specs.Plans.{LaidData, IsPlan}
 use Rattle.toc_groups.specs.Data.{data_refusal}
+use Rattle.toc_groups.specs.declared.extents.TheConstants.{DATA_END}
 use Rattle.call_sites.specs.declared.site.CallSite.{CallSite}
 use Rattle.call_sites.specs.Sites.{call_sites}
 use Rattle.layout_rounds.specs.declared.shape.Shape.{Shape}
@@ -13,6 +17,7 @@ use Rattle.layout_rounds.specs.Layout.{PlacedText, key_count, text_end, IsLayout
 use Rattle.layout_rounds.specs.Reach.{IsClosed}
 use Rattle.layout_rounds.specs.Settled.{call_reaches}
 use Rattle.image_writer.specs.JobShape.{shape_sections, shape_sites}
+use Rattle.image_writer.specs.Text.{text_section}
 
 -- a shape is that of files with a plan of data and these call sites
 pub record IsShapeOf (files : List (List ℕ)) (plan : LaidData) (sites : List CallSite) (shape : Shape) : Type 0 where
@@ -39,3 +44,15 @@ pub record IsJob (files : List (List ℕ)) (plan : LaidData) (sites : List CallS
   pub laid : IsLayout t (member far) places
   pub within : text_end t (member far) ≤ shape.start + TEXT_LIMIT
   pub reached : (i : ℕ) → i < length shape.sites.items → call_reaches t shape.sites.items (member far) span i ≡ true
+
+-- where the text of a job lies: behind its data, within the limit of text, and each text section in it
+pub record IsPlacedText (files : List (List ℕ)) (plan : LaidData) (t : KeyedText) (far : List Bool) (places : PlacedText) : Type 0 where
+  pub far_count : length far ≡ key_count t
+  pub start_low : plan.text_start ≤ DATA_END
+  pub start : plan.text_start ≤ text_end t (member far)
+  pub limit : text_end t (member far) ≤ plan.text_start + TEXT_LIMIT
+  pub count : length places.sections ≡ length (text_sections files)
+  pub from : (s : ℕ) → s < length places.sections → plan.text_start ≤ slice_index places.sections s
+  pub to : (s : ℕ) → s < length places.sections →
+      slice_index places.sections s + length (section_bytes (file_at files (text_section files s).file) (text_section files s).section)
+      ≤ text_end t (member far)

@@ -12,7 +12,8 @@ use Rattle.layout_rounds.specs.declared.settling.LayoutFault.TheVariants as faul
 use Rattle.layout_rounds.specs.FarSets.{member}
 use Rattle.layout_rounds.specs.Shapes.{KeyedText}
 use Rattle.layout_rounds.specs.Layout.{PlacedText}
-use Rattle.layout_rounds.specs.Settled.{IsFarLayout, IsAccepted, IsRefused}
+use Rattle.layout_rounds.specs.Reach.{IsFarSet}
+use Rattle.layout_rounds.specs.Settled.{IsFarLayout, IsAccepted, IsRefusedBy}
 use Rattle.object_set.specs.declared.refusal.Refusal.TheVariants.{TextTooBig, StubReach, Memory}
 use Rattle.image_writer.specs.Calls.{call_at}
 use Rattle.image_writer.specs.Job.{IsShapeOf}
@@ -33,11 +34,25 @@ pub record IsLaidText (files : List (List ℕ)) (plan : LaidData) (sites : List 
   pub laid : IsFarLayout shape span t far places
   pub accepted : IsAccepted shape span (member far)
 
--- the shape of a job is refused for that
+-- a text in stub groups, its far keys, and its places
+pub record TextLayout : Type 0 where
+  pub keyed : KeyedText
+  pub far : List Bool
+  pub places : PlacedText
+
+abbrev pub layout_of : KeyedText → List Bool → PlacedText → TextLayout
+layout_of keyed far places = record { keyed = keyed; far = far; places = places }
+
+abbrev pub IsTextLayout : List (List ℕ) → LaidData → List CallSite → ℕ → TextLayout → Type 0
+IsTextLayout files plan sites span text = IsLaidText files plan sites span text.keyed text.far text.places
+
+-- the shape of a job is refused for that in the layout of its far set
 pub record IsRefusedJob (files : List (List ℕ)) (plan : LaidData) (sites : List CallSite) (span : ℕ) (why : LayoutFault) : Type 0 where
   pub shape : Shape
+  pub far : ℕ → Bool
   pub shape_is : IsShapeOf files plan sites shape
-  pub refused : IsRefused shape span why
+  pub far_is : IsFarSet shape span far
+  pub refused : IsRefusedBy shape span far why
 
 -- a call of the job, which is the first that doesn't reach its stub
 pub record IsFirstOut (files : List (List ℕ)) (plan : LaidData) (sites : List CallSite) (span : ℕ) (site : Site) : Type 0 where

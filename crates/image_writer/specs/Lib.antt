@@ -2,7 +2,15 @@ pub mod JobShape
 pub mod Text
 pub mod Calls
 pub mod Fields
+pub mod Rewriting
+pub mod TocLoads
+pub mod GotLoads
+pub mod Records
 pub mod Image
 pub mod Job
 pub mod LaidText
 pub mod inside
+pub mod Plan
+pub mod Segments
+pub mod Counts
+pub mod laws

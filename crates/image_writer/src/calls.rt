@@ -91,7 +91,8 @@ pub fn put_calls(
         settled.now.keyed (member settled.now.far) settled.now.places plan.now.text_start
         (length text.old) (call_at sites.now i) }
     ensures put { text.new ≡ all_patched text.old (call_patches res.now.files plan.now.bases
-        settled.now.keyed (member settled.now.far) settled.now.places plan.now.text_start sites.now) }
+        settled.now.keyed (member settled.now.far) settled.now.places plan.now.text_start
+        sites.now) }
     ensures size { length text.new ≡ length text.old }
 {
     let mut n = 0;

@@ -2,17 +2,28 @@
 // at its address (ELFv2 ABI, "Function Call" and "Relocation Types"; ELF64, "Program Header").
 #![tactic(auto)]
 
+mod addresses;
 mod calls;
+mod executable;
 mod fields;
+mod got_loads;
 mod layout;
 mod ready;
+mod records;
+mod rewriting;
 mod sections;
 mod shape;
 mod stubs;
 mod text;
+mod toc_loads;
 
+pub use addresses::plans_have_addresses;
+pub use executable::segments;
 pub use layout::lay_text;
+pub use ready::text_is_placed;
+pub use rewriting::{texts_are_one, texts_may_stay_plain};
 pub use shape::{call_numbered, shape_of};
+pub use stubs::stub_bytes;
 pub use text::text_bytes;
 
 #[cfg(test)]

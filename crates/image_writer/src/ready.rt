@@ -1,6 +1,7 @@
 // What a layout gives to those who write its text.
 ghost use Rattle.std.specs.Prelude.{◌≡◌, ◌<◌, ℕ, length, slice_index};
-ghost use Rattle.image_writer.specs.Job.{IsJob};
+ghost use Rattle.toc_groups.specs.Contents.{AreOfFiles};
+ghost use Rattle.image_writer.specs.Job.{IsJob, IsPlacedText};
 ghost use Rattle.image_writer.specs.inside.Ready.{HasRooms};
 
 use call_sites::CallSite;
@@ -14,7 +15,8 @@ use toc_groups::{DataPlan, data_is_placed};
 pub fn parts_have_room(res: &Resolved, plan: &DataPlan, sites: &[CallSite], settled: &Settled)
     requires job { IsJob res.now.files plan.now sites.now settled.now.keyed settled.now.far
         settled.now.places }
-    ensures rooms { HasRooms res.now.files plan.now sites.now settled.now.keyed settled.now.far settled.now.places }
+    ensures rooms { HasRooms res.now.files plan.now sites.now settled.now.keyed settled.now.far
+        settled.now.places }
     ensures bases { length plan.now.bases ≡ length res.now.files }
     ensures low { (file : ℕ) → slice_index plan.now.bases file < 0x60000000 }
 {
@@ -24,4 +26,18 @@ pub fn parts_have_room(res: &Resolved, plan: &DataPlan, sites: &[CallSite], sett
     sections_and_stubs_lie_in_text();
     branches_stay_in_reach();
     data_is_placed();
+}
+
+/// The text of a job lies behind its data and within its limit, and each text section in it. It does nothing when it runs.
+pub fn text_is_placed(res: &Resolved, plan: &DataPlan, sites: &[CallSite], settled: &Settled)
+    requires { IsJob res.now.files plan.now sites.now settled.now.keyed settled.now.far
+        settled.now.places }
+    ensures placed { IsPlacedText res.now.files plan.now settled.now.keyed settled.now.far
+        settled.now.places }
+    ensures of_files { AreOfFiles res.now.files plan.now settled.now.places.sections }
+{
+    // none of the files is refused
+    let _files = res.set().file_count();
+    data_is_placed();
+    parts_have_room(res, plan, sites, settled);
 }

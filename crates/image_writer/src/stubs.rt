@@ -5,6 +5,7 @@ ghost use Rattle.symbol_table.specs.Text.{text_sections};
 ghost use Rattle.layout_rounds.specs.FarSets.{member};
 ghost use Rattle.layout_rounds.specs.Layout.{key_count, section_count, stub_size};
 ghost use Rattle.placed_bytes.specs.Patches.{all_patched};
+ghost use Rattle.image_writer.specs.Counts.{stubs_size};
 ghost use Rattle.image_writer.specs.Text.{eight_words, stub_patch, stub_patches, stub_text, word_patches};
 ghost use Rattle.image_writer.specs.inside.Ready.{AreCallerBases, HasStubRoom, IsStubReady};
 
@@ -135,4 +136,17 @@ pub fn put_stubs(
     for k in 0..settled.keyed.key_count() {
         put_stub(text, res, plan, settled, callers, k);
     }
+}
+
+/// How many bytes the stubs of a layout have, without padding.
+pub fn stub_bytes(settled: &Settled) -> u64
+    requires { length settled.now.far ≡ key_count settled.now.keyed }
+    ensures { result ≡ stubs_size settled.now.keyed (member settled.now.far)
+        (key_count settled.now.keyed) }
+{
+    let mut total = 0;
+    for k in 0..settled.keyed.key_count() {
+        total += u64::from(size(settled.keyed.key(k).class, settled.far.holds(k)));
+    }
+    total
 }

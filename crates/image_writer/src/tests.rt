@@ -1,3 +1,4 @@
 // Texts that were worked by hand.
 mod jobs;
+mod rewritten;
 mod texts;

@@ -73,7 +73,7 @@ module _ (files : List (List ℕ)) (bases : List ℕ) (t : KeyedText) (F : ℕ �
     pub branch : BranchReadyBy site.class n
     pub reaches : InSigned 26 (displacement files bases t F p site n)
 
--- the field of a record has room in a text of so many bytes that starts somewhere, and lies in its section
+-- the field of a record, and all of its section behind it, has room in a text of so many bytes that starts somewhere
 pub record HasFieldRoom (files : List (List ℕ)) (span : ℕ) (text : List ℕ) (start size : ℕ) (r : RecordId) (kind : Kind) : Type 0 where
   pub known : kind_numbered (rela_of (file_at files r.file) r.table r.entry).kind ≡ Some kind
   pub wide : ((line_of kind).width ≡ 4) ⊎ ((line_of kind).width ≡ 8)
@@ -81,6 +81,13 @@ pub record HasFieldRoom (files : List (List ℕ)) (span : ℕ) (text : List ℕ)
       ≤ length (section_bytes (file_at files r.file) r.section)
   pub from : start ≤ field_address files span text r
   pub room : field_address files span text r - start + (line_of kind).width ≤ size
+  pub rest : field_address files span text r - start + length (section_bytes (file_at files r.file) r.section)
+      ≤ size + (rela_of (file_at files r.file) r.table r.entry).offset
+
+-- text sections lie at addresses from the start of an image on
+pub record AreTextAddresses (text : List ℕ) : Type 0 where
+  pub from : (s : ℕ) → s < length text → 0x10000000 ≤ slice_index text s
+  pub low : (s : ℕ) → s < length text → slice_index text s ≤ 0x60000000
 
 -- in the layout of a job sections, stubs, calls and fields have room in the text, and branches reach
 pub record HasRooms (files : List (List ℕ)) (plan : LaidData) (sites : List CallSite) (t : KeyedText) (far : List Bool) (p : PlacedText) : Type 0 where
@@ -99,5 +106,6 @@ pub record HasRooms (files : List (List ℕ)) (plan : LaidData) (sites : List Ca
       IsCallReady files plan.bases t (member far) p (call_at sites i) (call_number sites i)
   pub calls_room : (i : ℕ) → i < length sites →
       HasCallRoom files plan.bases t (member far) p plan.text_start (text_end t (member far) - plan.text_start) (call_at sites i)
+  pub addresses : AreTextAddresses p.sections
   pub fields_room : (r : RecordId) (kind : Kind) → IsRecord files r → text_kind files r ≡ Some kind →
       HasFieldRoom files plan.span p.sections plan.text_start (text_end t (member far) - plan.text_start) r kind

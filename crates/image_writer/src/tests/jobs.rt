@@ -1,19 +1,23 @@
 // Jobs as listings, and what their text comes to.
-ghost use Rattle.std.specs.Prelude.{◌≡◌, ◌<◌, IsTrue};
+ghost use Rattle.std.specs.Prelude.{◌≡◌, ◌<◌, ◌^◌, IsTrue, length};
 ghost use Rattle.layout_rounds.specs.Shapes.{IsSpan};
+ghost use Rattle.image_writer.specs.Job.{IsJob};
 
-use crate::{lay_text, text_bytes};
-use call_sites::sites;
+use crate::{lay_text, plans_have_addresses, text_bytes};
+use call_sites::{CallSite, sites};
+use layout_rounds::Settled;
 use object_builder::{Object, Record, Section, Symbol};
 use object_set::{FileBytes, ObjectSet, Refusal};
+use pcrel_rewrite::pairs;
 use ppc_bytes::Steps;
-use ppc_bytes::constants::{STB_GLOBAL, STB_WEAK};
+use ppc_bytes::constants::{SHN_ABS, STB_GLOBAL, STB_WEAK};
 use std::alloc::{AllocError, Global};
 use std::marker::Brand;
 use std::sync::ledger::{Blank, Ledger};
 use std::test::Fail;
-use symbol_table::resolve;
-use toc_groups::lay_data;
+use symbol_table::{Resolved, resolve};
+use toc_groups::{DataPlan, lay_data};
+use toc_rewrite::foldable;
 
 /// Zeros but for some words, each with its offset.
 #[derive(Clone, Copy)]
@@ -44,14 +48,17 @@ pub enum Named {
     Elsewhere(&'static [u8]),
     /// A WEAK one that the file doesn't define.
     Perhaps(&'static [u8]),
+    /// One that only the file sees and that stands for a number.
+    Number(u64),
 }
 
-/// A file: text sections, a part of the table of contents and data, both zeros, and symbols, of which those that only the file sees
-/// come first.
+/// A file: text sections, a part of the table of contents with its records, and data, both zeros, and symbols, of which those that only
+/// the file sees come first.
 #[derive(Clone, Copy)]
 pub struct File {
     pub texts: &'static [Code],
     pub toc: usize,
+    pub slots: &'static [Row],
     pub data: usize,
     pub symbols: &'static [Named],
 }
@@ -83,6 +90,7 @@ fn symbol(named: Named) -> Symbol<'static> {
         Named::Global(name, value, entries) => (name, STB_GLOBAL << 4, 1, value, entries),
         Named::Elsewhere(name) => (name, STB_GLOBAL << 4, 0, 0, 0),
         Named::Perhaps(name) => (name, STB_WEAK << 4, 0, 0, 0),
+        Named::Number(n) => (b"number".as_slice(), 0, SHN_ABS, n, 0),
     };
     Symbol {
         name,
@@ -95,65 +103,74 @@ fn symbol(named: Named) -> Symbol<'static> {
     }
 }
 
-/// The records of each text section.
+/// Records by their rows.
+fn table(alloc: Global, rows: &[Row]) -> Result<Vec<Record>, AllocError> {
+    let mut table = Vec::new(alloc);
+    for (offset, kind, symbol, addend) in rows {
+        table.push(Record {
+            offset: *offset,
+            kind: *kind,
+            symbol: *symbol,
+            addend: *addend,
+        })?;
+    }
+    Ok(table)
+}
+
+/// The records of each section: those of text, those of the table of contents, and none of data.
 fn records(alloc: Global, file: &File) -> Result<Vec<Vec<Record>>, AllocError> {
     let mut tables = Vec::new(alloc);
     for code in file.texts {
-        let mut table = Vec::new(alloc);
-        for (offset, kind, symbol, addend) in code.records {
-            table.push(Record {
-                offset: *offset,
-                kind: *kind,
-                symbol: *symbol,
-                addend: *addend,
-            })?;
-        }
-        tables.push(table)?;
+        tables.push(table(alloc, code.records)?)?;
     }
+    tables.push(table(alloc, file.slots)?)?;
+    tables.push(Vec::new(alloc))?;
     Ok(tables)
 }
 
-/// The bytes of each text section.
+/// The bytes of each section: those of text, and zeros.
 fn contents(alloc: Global, file: &File) -> Result<Vec<Vec<u8>>, AllocError> {
     let mut contents = Vec::new(alloc);
     for code in file.texts {
         contents.push(code.words.bytes(alloc)?)?;
     }
+    contents.push(vec![in alloc; 0u8; file.toc]?)?;
+    contents.push(vec![in alloc; 0u8; file.data]?)?;
     Ok(contents)
 }
 
-fn text_section<'a>(bytes: &'a [u8], records: &'a [Record]) -> Section<'a> {
-    Section {
-        bytes,
-        records,
-        ..Section::TEXT
+/// What a section is that comes behind so many others, of which the first ones are text.
+fn kind_behind(count: usize, texts: usize) -> Section<'static> {
+    if count < texts {
+        Section::TEXT
+    } else if count == texts {
+        Section::TOC
+    } else {
+        Section::DATA
     }
 }
 
-fn of_bytes<'a>(kind: Section<'static>, bytes: &'a [u8]) -> Section<'a> {
-    Section { bytes, ..kind }
+fn of_bytes<'a>(kind: Section<'static>, bytes: &'a [u8], records: &'a [Record]) -> Section<'a> {
+    Section {
+        bytes,
+        records,
+        ..kind
+    }
 }
 
-/// The text sections.
-fn text_sections<'a>(
+/// Sections with these bytes and records, of which so many are text.
+fn sections<'a>(
     alloc: Global,
+    texts: usize,
     contents: &'a [Vec<u8>],
     tables: &'a [Vec<Record>],
 ) -> Result<Vec<Section<'a>>, AllocError> {
     let mut sections = Vec::new(alloc);
     for (bytes, records) in contents.iter().zip(tables.iter()) {
-        sections.push(text_section(bytes.as_slice(), records.as_slice()))?;
+        let kind = kind_behind(sections.len(), texts);
+        sections.push(of_bytes(kind, bytes.as_slice(), records.as_slice()))?;
     }
     Ok(sections)
-}
-
-/// An object of these parts.
-fn of_parts<'a>(sections: &'a [Section<'a>], symbols: &'a [Symbol<'a>]) -> Object<'a> {
-    Object {
-        sections,
-        symbols,
-        ..Object::EMPTY
-    }
 }
 
 fn symbols_of(alloc: Global, file: &File) -> Result<Vec<Symbol<'static>>, AllocError> {
@@ -168,15 +185,11 @@ fn symbols_of(alloc: Global, file: &File) -> Result<Vec<Symbol<'static>>, AllocE
 fn file_bytes(alloc: Global, file: &File) -> Result<FileBytes, Fail> {
     let contents = contents(alloc, file)?;
     let tables = records(alloc, file)?;
-    let toc = vec![in alloc; 0u8; file.toc]?;
-    let data = vec![in alloc; 0u8; file.data]?;
-    let mut sections = text_sections(alloc, &contents, &tables)?;
-    sections.push(of_bytes(Section::TOC, &toc))?;
-    sections.push(of_bytes(Section::DATA, &data))?;
+    let sections = sections(alloc, file.texts.len(), &contents, &tables)?;
     let symbols = symbols_of(alloc, file)?;
     Ok(FileBytes {
         name: String::from_str(alloc, "t.o")?,
-        bytes: of_parts(&sections, &symbols).file(alloc)?,
+        bytes: Object::of_parts(&sections, &symbols).file(alloc)?,
     })
 }
 
@@ -185,6 +198,29 @@ fn is_span(span: u32) -> bool
     ensures { IsTrue result → IsSpan span }
 {
     span % 4 == 0 && 0x100 <= span && span <= 0x200_0000
+}
+
+/// The text of a job that is laid out, with its slots and pairs.
+fn bytes_of(
+    alloc: Global,
+    res: &Resolved,
+    plan: &DataPlan,
+    sites: &[CallSite],
+    settled: &Settled,
+) -> Result<Result<Vec<u8>, Refusal>, Fail>
+    requires job { IsJob res.now.files plan.now sites.now settled.now.keyed settled.now.far
+        settled.now.places }
+    requires few { length sites.now < 2 ^ 32 }
+{
+    let _count = res.set().file_count();
+    plans_have_addresses();
+    let Ok(folds) = foldable(alloc, res, plan.bases(), plan.pieces()) else {
+        return Err(Fail::new("no memory for slots"));
+    };
+    let Ok(pairs) = pairs(alloc, res) else {
+        return Err(Fail::new("no memory for pairs"));
+    };
+    Ok(text_bytes(alloc, res, plan, sites, settled, &folds, &pairs))
 }
 
 /// The text of files that aren't refused, with a branch span and a counter of placements, or why there is none.
@@ -224,7 +260,7 @@ fn text_of<L: Ledger>(
     let _count = found.count();
     let mut steps = Steps::<L>::new(blank);
     match lay_text(alloc, &res, &plan, found.as_slice(), span, &mut steps) {
-        Ok(settled) => Ok(text_bytes(alloc, &res, &plan, found.as_slice(), &settled)),
+        Ok(settled) => bytes_of(alloc, &res, &plan, found.as_slice(), &settled),
         Err(refusal) => Ok(Err(refusal)),
     }
 }

@@ -41,6 +41,7 @@ const SAVED: Row = (
             records: &[(0, REL16_HA, 3, 0), (4, REL16_LO, 3, 4), (8, REL24, 1, 0)],
         }],
         toc: 0,
+        slots: &[],
         data: 0,
         symbols: &[At(1, 0x40, 1), Public(b"_start", 0, 3), Elsewhere(b".TOC.")],
     }],
@@ -78,6 +79,7 @@ const SWITCHED: Row = (
                 records: &[(0, REL16_HA, 2, 0), (4, REL16_LO, 2, 4), (8, REL24, 3, 0)],
             }],
             toc: 0x1_0000,
+            slots: &[],
             data: 0,
             symbols: &[
                 Public(b"_start", 0, 3),
@@ -94,6 +96,7 @@ const SWITCHED: Row = (
                 records: &[(0, REL16_HA, 2, 0), (4, REL16_LO, 2, 4)],
             }],
             toc: 8,
+            slots: &[],
             data: 0,
             symbols: &[Public(b"f", 0, 3), Elsewhere(b".TOC.")],
         },
@@ -138,6 +141,7 @@ const ENTERED: Row = (
             ],
         }],
         toc: 0,
+        slots: &[],
         data: 0,
         symbols: &[At(1, 0x40, 3), Public(b"_start", 0, 1), Elsewhere(b".TOC.")],
     }],
@@ -194,6 +198,7 @@ const PUSHED: [File; 1] = [File {
         },
     ],
     toc: 0,
+    slots: &[],
     data: 0,
     symbols: &[
         At(3, 0, 0),
@@ -250,6 +255,7 @@ const NOWHERE: Row = (
             records: &[(0, REL24, 2, 0)],
         }],
         toc: 0,
+        slots: &[],
         data: 0,
         symbols: &[Public(b"_start", 0, 1), Perhaps(b"u")],
     }],
@@ -260,7 +266,8 @@ const NOWHERE: Row = (
     },
 );
 
-/// Loads by distances from the TOC base, of a slot at 0x10000000 and a pointer at 0x10000008. Text starts at 0x10010000.
+/// Loads by distances from the TOC base, of a slot at 0x10000000 and a pointer at 0x10000008. Text starts at 0x10010000. The last word has
+/// r0 as its base, so that the file isn't orderly.
 const LOADS: Row = (
     &[File {
         texts: &[Code {
@@ -288,6 +295,7 @@ const LOADS: Row = (
             ],
         }],
         toc: 8,
+        slots: &[],
         data: 8,
         symbols: &[
             At(2, 0, 0),
@@ -334,6 +342,7 @@ const OUT: [File; 1] = [File {
         records: &[(4, REL24, 1, 0)],
     }],
     toc: 0,
+    slots: &[],
     data: 0,
     symbols: &[At(1, 0x200, 0), Public(b"_start", 0, 1)],
 }];
@@ -357,6 +366,7 @@ const UNEVEN: [File; 1] = [File {
         records: &[(8, TOC16_LO_DS, 1, 4), (4, TOC16_LO_DS, 1, 0)],
     }],
     toc: 0,
+    slots: &[],
     data: 8,
     symbols: &[At(3, 2, 0), Public(b"_start", 0, 1)],
 }];

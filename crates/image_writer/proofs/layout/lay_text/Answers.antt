@@ -5,7 +5,8 @@ use Rattle.layout_rounds.specs.Layout.{text_end}
 use Rattle.layout_rounds.specs.Reach.{IsClosed}
 use Rattle.layout_rounds.specs.Settled.{call_reaches, IsRefused}
 use Rattle.image_writer.specs.Calls.{no_call}
-use Rattle.image_writer.proofs.Refusing.{call_within}
+use Rattle.layout_rounds.specs.declared.settling.LayoutFault.TheVariants.{TextTooBig, StubReach}
+use Rattle.image_writer.proofs.Refusing.{call_within, refused_job}
 use Rattle.image_writer.proofs.layout.lay_text.Goals as goal
 
 -- a layout of the far set is one of a closed set
@@ -47,11 +48,10 @@ returns-clause-ticks g c = omega (arith, c.settle.ensures.ticks, c.in-Ok.ensures
 
 -- a text over its limit is that of the shape
 pub returns-in-Err-TextTooBig-clause-refusal : goal.returns-in-Err-TextTooBig-clause-refusal
-returns-in-Err-TextTooBig-clause-refusal g c = record {
-  shape = c.in-Ok.shape;
-  shape_is = c.in-Ok.ensures.shape;
-  refused = subst (IsRefused c.in-Ok.shape c.args.span) c.in-Err-TextTooBig.field-0-is c.in-Err-TextTooBig.ensures.refused;
-}
+returns-in-Err-TextTooBig-clause-refusal g c =
+    refused_job c.args.res.now.files c.args.plan.now c.args.sites.now c.args.span c.in-Ok.shape TextTooBig c.in-Ok.ensures.shape
+    (c.some_far_set.ensures c.in-Ok.shape c.args.span c.in-Ok.ensures.sound c.requires.span)
+    (subst (IsRefused c.in-Ok.shape c.args.span) c.in-Err-TextTooBig.field-0-is c.in-Err-TextTooBig.ensures.refused)
 
 -- the call is one of the shape, and so of the job
 pub call_numbered-requires : goal.call_numbered-requires
@@ -66,10 +66,8 @@ returns-in-Err-StubReach-clause-refusal g c = record {
   within = call_within c.args.sites.now c.in-Ok.shape c.args.span c.in-Err-StubReach.i c.in-Ok.ensures.shape.sites_are
       (c.some_far_set.ensures c.in-Ok.shape c.args.span c.in-Ok.ensures.sound c.requires.span)
       (subst (IsRefused c.in-Ok.shape c.args.span) c.in-Err-StubReach.field-0-is c.in-Err-StubReach.ensures.refused);
-  refused = record {
-    shape = c.in-Ok.shape;
-    shape_is = c.in-Ok.ensures.shape;
-    refused = subst (IsRefused c.in-Ok.shape c.args.span) c.in-Err-StubReach.field-0-is c.in-Err-StubReach.ensures.refused;
-  };
+  refused = refused_job c.args.res.now.files c.args.plan.now c.args.sites.now c.args.span c.in-Ok.shape (StubReach c.in-Err-StubReach.i)
+      c.in-Ok.ensures.shape (c.some_far_set.ensures c.in-Ok.shape c.args.span c.in-Ok.ensures.sound c.requires.span)
+      (subst (IsRefused c.in-Ok.shape c.args.span) c.in-Err-StubReach.field-0-is c.in-Err-StubReach.ensures.refused);
   site_is = c.call_numbered.ensures no_call;
 }

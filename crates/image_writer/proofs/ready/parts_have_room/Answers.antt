@@ -25,6 +25,6 @@ returns-clause-rooms c =
     c.sections_and_stubs_lie_in_text.ensures.sections c.sections_and_stubs_lie_in_text.ensures.instructions
     c.sections_and_stubs_lie_in_text.ensures.stubs c.branches_stay_in_reach.ensures.calls c.branches_stay_in_reach.ensures.stubs in
     let whole = ap set_refusal (sym c.set.ensures) ∙ c.file_count-files.ensures.whole in
-    let low = bases_low c.args.res.now.files c.args.plan.now job.plan_is
-    (c.data_is_placed.ensures c.args.res.now.files c.args.plan.now.span whole job.data_fits) in
-    rooms c.args.res.now.files c.args.plan.now c.args.sites.now settled.keyed settled.far settled.places whole job gives low
+    let placed = c.data_is_placed.ensures c.args.res.now.files c.args.plan.now.span whole job.data_fits in
+    rooms c.args.res.now.files c.args.plan.now c.args.sites.now settled.keyed settled.far settled.places whole job gives
+    (bases_low c.args.res.now.files c.args.plan.now job.plan_is placed) placed

@@ -14,8 +14,8 @@ put_calls-requires-clause-room c = λ i lt.
     c.args.plan.now.text_start n (call_at c.args.sites.now i)) (sym size) (c.parts_have_room.ensures.rooms.calls_room i lt)
 
 -- and stays so
-pub put_fields-requires-clause-room : goal.put_fields-requires-clause-room
-put_fields-requires-clause-room c = λ r kind here is.
+pub put_records-requires-clause-room : goal.put_records-requires-clause-room
+put_records-requires-clause-room c = λ r kind here is.
     let settled = c.args.settled.now in
     let first = ap (λ (l : List ℕ). length l) c.deref_mut.ensures.value ∙ c.in_ok-text.ensures.size in
     let size : length c.deref_mut-2.result.now ≡ text_end settled.keyed (member settled.far) - c.args.plan.now.text_start =

@@ -6,17 +6,19 @@ use Rattle.object_set.specs.declared.places.RecordId.{RecordId}
 use Rattle.object_set.specs.Walks.{IsRecord, all_items, record_walk}
 use Rattle.object_set.specs.laws.Walks.{all_records_in, first_of, rest_of}
 use Rattle.placed_bytes.specs.Patches.{all_patched}
-use Rattle.image_writer.specs.Fields.{field_patch, text_overflow_at, text_overflow}
+use Rattle.image_writer.specs.Records.{record_patch, text_overflow_at, text_overflow}
+use Rattle.image_writer.specs.Rewriting.{rewriting_of}
 use Rattle.image_writer.specs.inside.Ready.{HasFieldRoom}
 use Rattle.image_writer.proofs.Patching.{append_patches}
-use Rattle.image_writer.proofs.fields.put_fields.Goals as goal
+use Rattle.image_writer.proofs.records.put_records.Goals as goal
 
 -- all are left
 pub loop-id-init : goal.loop-id-init
 loop-id-init c =
     let files = c.args.res.now.files in
-    let f = field_patch files c.args.plan.now.span c.args.places.now.sections c.args.plan.now.text_start in
-    let over = text_overflow_at files c.args.plan.now.span c.args.places.now.sections in
+    let w = rewriting_of files c.args.plan.now.span c.args.pairs.now in
+    let f = record_patch files c.args.plan.now.span c.args.places.now.sections w c.args.plan.now.text_start in
+    let over = text_overflow_at files c.args.plan.now.span c.args.places.now.sections w in
     let all = c.into_iter-id-iterator.ensures.into_iter_gives ∙ c.records-id-items.ensures ∙ ap (all_items record_walk) c.set.ensures in
     record {
       records = subst (All (IsRecord files)) (sym all) (all_records_in files);
@@ -44,8 +46,9 @@ put_record-requires-clause-room c = λ kind is.
 pub loop-id-preserved : goal.loop-id-preserved
 loop-id-preserved c =
     let files = c.args.res.now.files in
-    let f = field_patch files c.args.plan.now.span c.args.places.now.sections c.args.plan.now.text_start in
-    let over = text_overflow_at files c.args.plan.now.span c.args.places.now.sections in
+    let w = rewriting_of files c.args.plan.now.span c.args.pairs.now in
+    let f = record_patch files c.args.plan.now.span c.args.places.now.sections w c.args.plan.now.text_start in
+    let over = text_overflow_at files c.args.plan.now.span c.args.places.now.sections w in
     let rest = c.next.new.self in
     let r = c.in-Some.id in
     let steps = c.in-Some.ensures.steps in
@@ -56,6 +59,6 @@ loop-id-preserved c =
           ∙ ap (λ (l : List RecordId). all_patched c.loop-id.text (flat_map f l)) (sym steps) ∙ c.loop-id.invariant.put;
       size = c.put_record.ensures.size ∙ c.loop-id.invariant.size;
       left = list_passes over c.loop-id.id-iterator rest r
-          (text_overflow files c.args.plan.now.span c.args.places.now.sections) c.loop-id.invariant.left steps
+          (text_overflow files c.args.plan.now.span c.args.places.now.sections w) c.loop-id.invariant.left steps
           c.in_ok-put_record.ensures.refusal;
     }

@@ -1,0 +1,3 @@
+-- What crates above may cite, with its proofs.
+pub mod OnePlan
+pub mod OneText
