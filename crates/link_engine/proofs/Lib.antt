@@ -1,1 +1,5 @@
-pub mod OnlyText
+pub mod Order
+pub mod Overflows
+pub mod Entered
+pub mod LaidOut
+pub mod LoadedImages

@@ -1,4 +1,4 @@
-pub mod Stage
 pub mod Options
 pub mod Link
+pub mod inside
 pub mod laws

@@ -1,75 +1,163 @@
 // Files become an executable.
-ghost use Rattle.std.specs.Prelude.{◌≡◌, ◌⊎◌, ◌≤◌, ◌<◌, length, None, Ok, Err, IfOk, IfErr};
-ghost use Rattle.elf64_records.specs.declared.headers.TheConstants.{FILE_LIMIT};
+ghost use Rattle.std.specs.Prelude.{◌≡◌, ◌⊎◌, ◌+◌, ◌-◌, ◌≤◌, ◌<◌, ◌^◌, length, None, Ok, Err, IfOk, IfErr};
 ghost use Rattle.object_set.specs.Files.{contents_of};
-ghost use Rattle.object_set.specs.Refusals.{Answers, set_refusal};
-ghost use Rattle.link_engine.specs.Stage.{not_built, text_of, IsEntered};
+ghost use Rattle.object_set.specs.Refusals.{Answers};
+ghost use Rattle.layout_rounds.specs.FarSets.{member};
+ghost use Rattle.layout_rounds.specs.Layout.{text_end};
+ghost use Rattle.toc_groups.specs.Contents.{AreDataSegments};
+ghost use Rattle.toc_rewrite.specs.Laid.{laid_files};
+ghost use Rattle.toc_rewrite.specs.Folded.{AreFolds};
+ghost use Rattle.pcrel_rewrite.specs.Pairs.{ArePairs};
+ghost use Rattle.image_writer.specs.Image.{text_image};
+ghost use Rattle.image_writer.specs.Rewriting.{rewriting_of};
+ghost use Rattle.image_writer.specs.Job.{IsJob};
+ghost use Rattle.image_writer.specs.LaidText.{layout_of};
 ghost use Rattle.link_engine.specs.Options.{InRange};
-ghost use Rattle.link_engine.specs.Link.{LinksTo, CountsNothing, first_refusal, image_of, image_at};
+ghost use Rattle.link_engine.specs.Link.{LinksTo, IsLinked, overflow, placement_limit};
+ghost use Rattle.link_engine.specs.inside.Writing.{IsEntered, IsResolved, IsWritten, address_of};
 
 use crate::files::{Linked, Options};
-use crate::stage::check_built;
-use elf64_exec::{IMAGE_START, Segment, Segments, TEXT, write_exec};
+use crate::overflow::earlier;
+use call_sites::{CallSite, sites};
+use elf64_exec::{Segment, write_exec, written_loads};
+use image_writer::{
+    lay_text, plans_have_addresses, segments, stub_bytes, text_bytes, text_is_placed,
+};
+use layout_rounds::{Places, Settled};
 use object_set::{FileBytes, ObjectSet, Refusal};
-use ppc_bytes::{Bytes, Memory, Steps};
+use pcrel_rewrite::{Pairs, pairs};
+use ppc_bytes::Steps;
 use std::alloc::Global;
 use std::sync::ledger::Ledger;
 use symbol_table::{Resolved, resolve};
+use toc_groups::{DataPlan, data_bytes, data_segments_are_placed, lay_data};
+use toc_rewrite::{Folds, foldable};
 
-/// The executable that loads a text and starts in it.
-fn image(alloc: Global, start: u64, text: &[u8]) -> Result<Vec<u8>, Memory>
-    requires some { 0 < length text.now }
-    requires limit { length text.now ≤ FILE_LIMIT }
-    requires below { start < length text.now }
-    ensures { IfOk result (λ file. file.items ≡ image_at start text.now) }
-{
-    let text = Vec::from_slice(alloc, text)?;
-    let size = text.len() as u64;
-    let segment = Segment {
-        flags: TEXT,
-        address: IMAGE_START,
-        bytes: Bytes::of(text),
-        size,
-    };
-    let segments = Segments {
-        entry: IMAGE_START + start,
-        list: Vec::from_array(alloc, [segment])?,
-    };
-    write_exec(alloc, &segments)
+/// What is loaded: the segments of data, and the bytes of text.
+#[derive(Drop)]
+struct Loaded {
+    data: Vec<Segment>,
+    text: Vec<u8>,
 }
 
-/// The bytes of the only kept section, in which the files are entered.
-fn only_text<'a>(resolved: &Resolved<'a, '_>) -> &'a [u8]
-    requires whole { set_refusal resolved.now.files ≡ None }
-    requires built { not_built resolved.now.files ≡ None }
-    requires entered { IsEntered resolved.now.files resolved.now.entry }
-    ensures text { result.now ≡ text_of resolved.now.files }
-    ensures below { resolved.now.entry.offset < length result.now }
-    ensures limit { length result.now ≤ FILE_LIMIT }
+/// The data and the text of a job; or the first record in record order whose field doesn't hold its value, which is told with it.
+fn contents(
+    alloc: Global,
+    res: &Resolved,
+    plan: &DataPlan,
+    calls: &[CallSite],
+    settled: &Settled,
+    folds: &Folds,
+    pairs: &Pairs,
+) -> Result<Loaded, Refusal>
+    requires job { IsJob res.now.files plan.now calls.now settled.now.keyed settled.now.far
+        settled.now.places }
+    requires few { length calls.now < 2 ^ 32 }
+    requires folds { AreFolds (laid_files res.now.files plan.now.bases plan.now.pieces) folds.now }
+    requires pairs { ArePairs res.now.files pairs.now }
+    ensures refusal { Answers result (overflow res.now.files plan.now.span
+        settled.now.places.sections (rewriting_of res.now.files plan.now.span pairs.now)) }
+    ensures data { IfOk result (λ l. AreDataSegments res.now.files plan.now.span
+        settled.now.places.sections l.data.items) }
+    ensures text { IfOk result (λ l. l.text.items ≡ text_image res.now.files plan.now calls.now
+        settled.now.keyed (member settled.now.far) settled.now.places
+        (rewriting_of res.now.files plan.now.span pairs.now)) }
+    ensures size { IfOk result (λ l. length l.text.items
+        ≡ text_end settled.now.keyed (member settled.now.far) - plan.now.text_start) }
 {
-    let (file, section) = resolved.text_of(resolved.entry().section);
-    resolved.set().view(file).section(section).bytes
-}
-
-/// The executable of the files' only kept section, or why there is none.
-fn image_of(alloc: Global, files: &[FileBytes], options: &Options) -> Result<Vec<u8>, Refusal>
-    requires { length files.now ≤ 4096 }
-    ensures refusal { Answers result (first_refusal (contents_of files.now) options.now) }
-    ensures image { IfOk result (λ image.
-        image.items ≡ image_of (contents_of files.now) options.now) }
-{
-    let set = ObjectSet::take(alloc, files)?;
-    let resolved = resolve(alloc, &set, options.entry.as_str().as_bytes())?;
-    check_built(&set)?;
-    match image(alloc, resolved.entry().offset, only_text(&resolved)) {
-        Ok(image) => Ok(image),
-        Err(Memory) => Err(Refusal::Memory),
+    text_is_placed(res, plan, calls, settled);
+    match (
+        data_bytes(alloc, res, plan, &settled.places),
+        text_bytes(alloc, res, plan, calls, settled, folds, pairs),
+    ) {
+        (Ok(data), Ok(text)) => Ok(Loaded { data, text }),
+        (Err(refusal), Ok(_)) => Err(refusal),
+        (Ok(_), Err(refusal)) => Err(refusal),
+        (Err(in_data), Err(in_text)) => Err(earlier(in_data, in_text)),
     }
 }
 
+/// The address at which the program starts.
+fn entry_address(res: &Resolved, places: &Places) -> u64
+    requires section { res.now.entry.section < length places.now.sections }
+    requires low { address_of places.now.sections res.now.entry < 2 ^ 64 }
+    ensures { result ≡ address_of places.now.sections res.now.entry }
+{
+    let entry = res.entry();
+    places.section_at(entry.section) + entry.offset
+}
+
+/// The executable of a job.
+fn write_image(
+    alloc: Global,
+    res: &Resolved,
+    plan: &DataPlan,
+    calls: &[CallSite],
+    settled: &Settled,
+    folds: &Folds,
+    pairs: &Pairs,
+) -> Result<Vec<u8>, Refusal>
+    requires job { IsJob res.now.files plan.now calls.now settled.now.keyed settled.now.far
+        settled.now.places }
+    requires few { length calls.now < 2 ^ 32 }
+    requires entered { IsEntered res.now.files res.now.entry }
+    requires folds { AreFolds (laid_files res.now.files plan.now.bases plan.now.pieces) folds.now }
+    requires pairs { ArePairs res.now.files pairs.now }
+    ensures refusal { Answers result (overflow res.now.files plan.now.span
+        settled.now.places.sections (rewriting_of res.now.files plan.now.span pairs.now)) }
+    ensures image { IfOk result (λ image. IsWritten res.now.files plan.now calls.now
+        (address_of settled.now.places.sections res.now.entry)
+        (layout_of settled.now.keyed settled.now.far settled.now.places)
+        (rewriting_of res.now.files plan.now.span pairs.now) image.items) }
+{
+    // none of the files is refused
+    let _files = res.set().file_count();
+    text_is_placed(res, plan, calls, settled);
+    data_segments_are_placed();
+    written_loads();
+    let Loaded { data, text } = contents(alloc, res, plan, calls, settled, folds, pairs)?;
+    let entry = entry_address(res, &settled.places);
+    let list = segments(alloc, data, text, plan, entry)?;
+    Ok(write_exec(alloc, &list)?)
+}
+
+/// Links files whose names and records are resolved.
+fn link_resolved<L: Ledger>(
+    alloc: Global,
+    res: &Resolved,
+    options: &Options,
+    steps: &mut Steps<L>,
+) -> Result<Linked, Refusal>
+    requires resolved { IsResolved res.now options.now }
+    requires range { InRange options.now }
+    ensures refused { IfErr result (λ r.
+        (r ≡ Refusal.Memory) ⊎ LinksTo res.now.files options.now (Err r)) }
+    ensures linked { IfOk result (IsLinked res.now.files options.now) }
+    ensures steps { steps.new ≤ steps.old + placement_limit res.now.files options.now }
+{
+    let plan = lay_data(alloc, res, options.toc_span)?;
+    let calls = sites(alloc, res, plan.groups())?;
+    let _count = calls.count();
+    let calls = calls.as_slice();
+    let settled = lay_text(alloc, res, &plan, calls, options.branch_span, steps)?;
+    plans_have_addresses();
+    let folds = foldable(alloc, res, plan.bases(), plan.pieces())?;
+    let pairs = pairs(alloc, res)?;
+    let image = write_image(alloc, res, &plan, calls, &settled, &folds, &pairs)?;
+    Ok(Linked {
+        image,
+        sites: calls.len() as u64,
+        far: settled.far.count(),
+        stub_bytes: stub_bytes(&settled),
+        folds: folds.count(),
+    })
+}
+
 /// Links files. The refusal is the first in the stated order: of each file by itself, in order; of a name that is defined twice, of the
-/// entry, and of a relocation record; of the first file that can't be linked yet. Else the image is the executable of the files' only kept
-/// section, which is entered at the global entry point of what the entry's name stands for (ELFv2 ABI, 3.4.1 "Symbol Values").
+/// entry, and of a relocation record; of data that is too big, of text that is, and of a call without a place to restore r2; of laid out
+/// text that is too big, and of a call that doesn't reach its stub; of a field that doesn't hold its value. Else the image is the
+/// executable of the files' data and text, which is entered at the global entry point of what the entry's name stands for (ELFv2 ABI,
+/// "Symbol Values").
 pub fn link<L: Ledger>(
     alloc: Global,
     files: &[FileBytes],
@@ -81,17 +169,11 @@ pub fn link<L: Ledger>(
     requires range { InRange options.now }
     ensures refused { IfErr result (λ r.
         (r ≡ Refusal.Memory) ⊎ LinksTo (contents_of files.now) options.now (Err r)) }
-    ensures linked { IfOk result (λ l.
-        LinksTo (contents_of files.now) options.now (Ok l.image.items)) }
-    ensures counts { IfOk result CountsNothing }
-    ensures steps { steps.new ≡ steps.old }
+    ensures linked { IfOk result (IsLinked (contents_of files.now) options.now) }
+    ensures steps { steps.new
+        ≤ steps.old + placement_limit (contents_of files.now) options.now }
 {
-    let image = image_of(alloc, files, options)?;
-    Ok(Linked {
-        image,
-        sites: 0,
-        far: 0,
-        stub_bytes: 0,
-        folds: 0,
-    })
+    let set = ObjectSet::take(alloc, files)?;
+    let res = resolve(alloc, &set, options.entry.as_str().as_bytes())?;
+    link_resolved(alloc, &res, options, steps)
 }

@@ -1,11 +1,11 @@
 // The link: object files become the bytes of one static executable, or the link is refused with the first refusal in the
-// stated order. So far the files together have one section to keep, of text without relocations.
+// stated order.
 #![tactic(auto)]
 
 mod engine;
 mod files;
 mod laws;
-mod stage;
+mod overflow;
 
 pub use engine::link;
 pub use files::{BRANCH_SPAN, Linked, Options, TOC_SPAN};

@@ -1,11 +1,11 @@
-// Links of one and of two small objects.
+// Links of a few small objects.
 ghost use Rattle.std.specs.Prelude.{◌≡◌, ◌<◌};
 
 use crate::{BRANCH_SPAN, FileBytes, Linked, Options, Refusal, Steps, TOC_SPAN, link};
 use elf64_exec::{IMAGE_START, PAGE, read_exec};
 use object_builder::{FileHeader, Object, Record, Section, Symbol};
 use ppc_bytes::Memory;
-use ppc_bytes::constants::{SHN_COMMON, SHN_UNDEF};
+use ppc_bytes::constants::SHN_COMMON;
 use std::alloc::Global;
 use std::marker::Brand;
 use std::sync::ledger::{Blank, Ledger};
@@ -21,6 +21,11 @@ const TEXT: Section<'static> = Section {
 
 /// The same, but not kept.
 const DROPPED_TEXT: Section<'static> = Section { flags: 0, ..TEXT };
+
+const EIGHT_BYTES: Section<'static> = Section {
+    bytes: &[0; 8],
+    ..Section::DATA
+};
 
 const RECORD: Record = Record {
     offset: 0,
@@ -66,6 +71,19 @@ const LOCAL: Object<'static> = Object {
     ..WHOLE
 };
 
+/// `other` is a common of alignment 4 and 8 bytes.
+const COMMON_DATA: Object<'static> = Object {
+    sections: &[DROPPED_TEXT],
+    symbols: &[Symbol {
+        name: b"other",
+        section: SHN_COMMON,
+        value: 4,
+        size: 8,
+        ..Symbol::START
+    }],
+    ..Object::EMPTY
+};
+
 /// `_start` is a common of alignment 4.
 const COMMON: Object<'static> = Object {
     sections: &[DROPPED_TEXT],
@@ -100,7 +118,7 @@ const OTHER_RECORDS: Object<'static> = Object {
 
 /// Kept data beside the text.
 const DATA: Object<'static> = Object {
-    sections: &[TEXT, Section::DATA],
+    sections: &[TEXT, EIGHT_BYTES],
     ..WHOLE
 };
 
@@ -110,14 +128,38 @@ const MORE_TEXT: Object<'static> = Object {
     ..WHOLE
 };
 
-/// Data alone, beside an undefined `_start`.
-const ONLY_DATA: Object<'static> = Object {
-    sections: &[Section::DATA],
+/// The address of the text, which the immediate operand of the first instruction doesn't hold (R_PPC64_ADDR16).
+const WIDE_IN_TEXT: Object<'static> = Object {
+    sections: &[Section {
+        records: &[Record {
+            kind: 3,
+            symbol: 1,
+            ..RECORD
+        }],
+        ..TEXT
+    }],
     symbols: &[Symbol {
-        section: SHN_UNDEF,
+        info: 2,
         ..Symbol::START
     }],
-    ..Object::EMPTY
+    ..WHOLE
+};
+
+/// A number of 33 bits that a word of data doesn't hold (R_PPC64_ADDR32).
+const WIDE_IN_DATA: Object<'static> = Object {
+    sections: &[
+        TEXT,
+        Section {
+            records: &[Record {
+                kind: 1,
+                symbol: 1,
+                addend: 0x1_0000_0000,
+                ..RECORD
+            }],
+            ..EIGHT_BYTES
+        },
+    ],
+    ..WIDE_IN_TEXT
 };
 
 /// Objects, and the name of their entry.
@@ -163,31 +205,37 @@ fn linked(alloc: Global, job: Job) -> Result<Result<Linked, Refusal>, Fail> {
     link_with::<Brand>(Blank::new(1), alloc, job)
 }
 
-/// Files with one text section together, and how far into the text they are entered.
-const LINKED: [(&[&Object], u64); 6] = [
-    (&[&WHOLE], 0),
-    (&[&AT_FOUR], 4),
-    (&[&ALIGNED], 0),
-    (&[&WHOLE, &DROPPED], 0),
-    (&[&DROPPED, &AT_FOUR], 4),
-    (&[&OTHER_RECORDS], 0),
+/// Files, how far into the text they are entered, and whether they have data.
+const LINKED: [(&[&Object], u64, bool); 11] = [
+    (&[&WHOLE], 0, false),
+    (&[&AT_FOUR], 4, false),
+    (&[&ALIGNED], 0, false),
+    (&[&WHOLE, &DROPPED], 0, false),
+    (&[&DROPPED, &AT_FOUR], 4, false),
+    (&[&OTHER_RECORDS], 0, false),
+    (&[&RECORDS], 0, false),
+    (&[&MORE_TEXT], 0, false),
+    (&[&LOCAL, &WHOLE], 12, false),
+    (&[&DATA], 0, true),
+    (&[&WHOLE, &COMMON_DATA], 0, true),
 ];
 
 #[test]
-fn one_text_section_becomes_the_executable(rt: HostRuntime) -> Result<(), Fail> {
-    for (objects, offset) in LINKED {
+fn text_stands_behind_data_and_is_entered(rt: HostRuntime) -> Result<(), Fail> {
+    for (objects, offset, data) in LINKED {
         let entry = "_start";
         let Ok(linked) = linked(rt.alloc(), Job { objects, entry })? else {
             return Err(Fail::from("the files link"));
         };
-        assert_eq!(rt; linked.image.len() as u64, PAGE + 12);
         let Ok(image) = read_exec(rt.alloc(), &linked.image) else {
             return Err(Fail::from("an executable"));
         };
-        assert_eq!(rt; image.entry, IMAGE_START + offset);
-        assert_eq!(rt; image.list.len(), 1);
-        assert_eq!(rt; image.list[0].address, IMAGE_START);
-        assert!(rt; image.list[0].bytes.as_slice() == EXIT_7);
+        let start = IMAGE_START + if data { PAGE } else { 0 };
+        assert_eq!(rt; image.entry, start + offset);
+        assert_eq!(rt; image.list.len(), 1 + data as usize);
+        let text = &image.list[data as usize];
+        assert_eq!(rt; text.address, start);
+        assert!(rt; text.bytes.as_slice().starts_with(EXIT_7));
     }
     Ok(())
 }
@@ -195,14 +243,14 @@ fn one_text_section_becomes_the_executable(rt: HostRuntime) -> Result<(), Fail> 
 /// How files with an entry are refused.
 #[derive(Clone, Copy)]
 enum Why {
-    /// This file needs more.
-    NotBuilt(u32),
     /// This file is none.
     NotElf(u32),
     /// `_start` is defined twice, in these files.
     Twice(u32, u32),
     NoEntry,
     NotCode,
+    /// A field of this file doesn't hold this value.
+    Wide(u32, i128),
 }
 
 /// What doesn't begin as an ELF file does.
@@ -214,33 +262,43 @@ const FOREIGN: Object<'static> = Object {
     ..WHOLE
 };
 
-const REFUSED: [(&[&Object], &str, Why); 11] = [
-    // the first file that needs more
-    (&[&WHOLE, &COMMON], "_start", Why::NotBuilt(1)),
-    (&[&DROPPED, &RECORDS], "_start", Why::NotBuilt(1)),
-    (&[&DROPPED, &DATA], "_start", Why::NotBuilt(1)),
-    (&[&MORE_TEXT, &DROPPED], "_start", Why::NotBuilt(0)),
-    (&[&WHOLE, &LOCAL], "_start", Why::NotBuilt(1)),
-    (&[&LOCAL, &WHOLE], "_start", Why::NotBuilt(1)),
-    (&[&ONLY_DATA, &WHOLE], "_start", Why::NotBuilt(0)),
-    // files, then names, then the entry come before it
-    (&[&WHOLE, &WHOLE, &FOREIGN], "main", Why::NotElf(2)),
-    (&[&WHOLE, &COMMON, &WHOLE], "main", Why::Twice(0, 2)),
-    (&[&WHOLE, &COMMON], "main", Why::NoEntry),
-    (&[&DROPPED, &COMMON], "_start", Why::NotCode),
+const REFUSED: [(&[&Object], &str, Why); 7] = [
+    // files, then names, then the entry come before fields
+    (&[&WHOLE, &WIDE_IN_TEXT, &FOREIGN], "main", Why::NotElf(2)),
+    (&[&WHOLE, &WIDE_IN_TEXT, &WHOLE], "main", Why::Twice(0, 2)),
+    (&[&WHOLE, &WIDE_IN_TEXT], "main", Why::NoEntry),
+    (&[&WIDE_IN_TEXT, &COMMON], "_start", Why::NotCode),
+    // the earlier record is told, be it in data or in text
+    (
+        &[&WHOLE, &WIDE_IN_TEXT],
+        "_start",
+        Why::Wide(1, 0x1000_000C),
+    ),
+    (
+        &[&WHOLE, &WIDE_IN_TEXT, &WIDE_IN_DATA],
+        "_start",
+        Why::Wide(1, 0x1001_000C),
+    ),
+    (
+        &[&WHOLE, &WIDE_IN_DATA, &WIDE_IN_TEXT],
+        "_start",
+        Why::Wide(1, 0x1_1001_000C),
+    ),
 ];
 
 #[test]
 fn the_first_refusal_in_order_is_answered(rt: HostRuntime) -> Result<(), Fail> {
     for (i, (objects, entry, why)) in REFUSED.into_iter().enumerate() {
         let is_so = match (linked(rt.alloc(), Job { objects, entry })?, why) {
-            (Err(Refusal::NotBuilt(file)), Why::NotBuilt(first)) => file == first,
             (Err(Refusal::NotElf(file)), Why::NotElf(first)) => file == first,
             (Err(Refusal::Duplicate(_, one, other)), Why::Twice(first, second)) => {
                 one == first && other == second
             }
             (Err(Refusal::NoEntry(_)), Why::NoEntry) => true,
             (Err(Refusal::EntryNotCode(_)), Why::NotCode) => true,
+            (Err(Refusal::Overflow(site, value)), Why::Wide(file, wide)) => {
+                site.file == file && value == wide
+            }
             _ => false,
         };
         assert!(rt; is_so, "row {i}");

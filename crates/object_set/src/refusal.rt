@@ -77,8 +77,6 @@ pub enum Refusal {
     StubReach(Site),
     /// The value, the second number, doesn't fit the record's field.
     Overflow(Site, i128),
-    /// The file needs a part of linking that isn't built yet.
-    NotBuilt(u32),
     /// Memory was refused.
     Memory,
 }
@@ -95,6 +93,14 @@ impl<T: Drop> From<AllocFailed<T>> for Refusal {
     ghost from_gives = { λ _ r. r ≡ Memory };
 
     fn from(_: AllocFailed<T>) -> Self {
+        Refusal::Memory
+    }
+}
+
+impl From<ppc_bytes::Memory> for Refusal {
+    ghost from_gives = { λ _ r. r ≡ Memory };
+
+    fn from(_: ppc_bytes::Memory) -> Self {
         Refusal::Memory
     }
 }

@@ -36,7 +36,7 @@ held_none files (name ∷ names) (whole ∷ wholes) (here, rest) =
     ap (λ o. or_missing o name (first_missing files names)) here ∙ held_none files names wholes rest
 
 -- and their contents are these
-held_contents : (files : Files) (names wholes : List (List ℕ)) → AreFiles (Some files) names wholes → contents_in files names ≡ wholes
+pub held_contents : (files : Files) (names wholes : List (List ℕ)) → AreFiles (Some files) names wholes → contents_in files names ≡ wholes
 held_contents files [] [] are = refl
 held_contents files [] (whole ∷ wholes) are = absurd are
 held_contents files (name ∷ names) [] are = absurd are

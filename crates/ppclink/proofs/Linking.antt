@@ -1,5 +1,5 @@
 -- A link of what was fetched is a link of the files.
-use Rattle.std.proofs.Common.{◌≡◌, ◌≢◌, ℕ, ◌+◌, ◌<◌, ◌⊎◌, inl, inr, List, [], ◌∷◌, length, take, Option, Some, None, refl, sym, ap, ◌∙◌, subst, arith, Vec}
+use Rattle.std.proofs.Common.{◌≡◌, ◌≢◌, ℕ, ◌+◌, ◌<◌, ◌≤◌, ◌⊎◌, inl, inr, List, [], ◌∷◌, length, take, Option, Some, None, refl, sym, ap, ◌∙◌, subst, arith, Vec}
 use Rattle.std.specs.Prelude.{Result, Ok, Err, IfOk, OnOk, MatchResult}
 use Rattle.std.specs.declared.alloc.Global.{Global}
 use Rattle.std.proofs.lemmas.Bool.{lt-ltb}
@@ -7,9 +7,9 @@ use Rattle.elf64_records.specs.First.{◌orelse◌}
 use Rattle.object_set.specs.declared.refusal.Refusal.{Refusal}
 use Rattle.object_set.specs.declared.refusal.Refusal.TheVariants.{FileTooLong, Memory}
 use Rattle.object_set.specs.Refusals.{length_refusal, fault_refusal, sections_refusal, symbols_refusal, file_refusal, files_refusal}
-use Rattle.link_engine.specs.Link.{LinkOutcome, LinksTo}
+use Rattle.link_engine.specs.Link.{LinkOutcome, LinksTo, placements_by, placement_limit}
 use Rattle.link_engine.specs.Options.{LinkOptions}
-use Rattle.link_engine.specs.laws.Outcomes.{links_are_one, files_refused}
+use Rattle.link_engine.specs.laws.Outcomes.{links_are_one, files_early, files_refused}
 use Rattle.ppc_bytes.specs.declared.memory.Memory.{Memory as NoRoom}
 use Rattle.ppc_outside.specs.Outside.{Files, StoreState}
 use Rattle.ppclink.specs.declared.report.Report.{Report}
@@ -17,10 +17,10 @@ use Rattle.ppclink.specs.declared.report.Report.TheVariants.{Text, Written, Unwr
 use Rattle.ppclink.specs.Requests.{link_to}
 use Rattle.ppclink.specs.Lines.{refusal_line}
 use Rattle.ppclink.specs.Responses.{LinkResponds, link_response, ComesTo}
-use Rattle.ppclink.specs.Statuses.{Says}
+use Rattle.ppclink.specs.Statuses.{Says, CountsOver}
 use Rattle.ppclink.specs.inside.Fetched.{HaveRead, file_limit}
 use Rattle.ppclink.specs.inside.Reports.{Causes, ReplaceReport}
-use Rattle.ppclink.proofs.Coming.{AreFiles, cut, comes_held}
+use Rattle.ppclink.proofs.Coming.{AreFiles, cut, held_contents, comes_held}
 use Rattle.ppclink.proofs.Reporting.{keeps_same, keeps_unchanged, text_stated, text_causes}
 
 -- one byte past the limit was read of each file, and no more of what is too long
@@ -176,3 +176,38 @@ refuse_causes old new out options options' names contents r text a same kept rea
     text_causes old new (Some (link_to out options names)) a (keeps_same old new kept)
     (text_stated (Says old new (Some (link_to out options names))) (r ≢ Memory) 1 (refusal_line names r) text a
     (refuse_says old new out options options' names contents r same kept read refused) line stated is)
+
+-- what was read counts no more than the files
+limit_alike : (contents wholes : List (List ℕ)) (options : LinkOptions) → AreCut contents wholes →
+    placement_limit contents options ≤ placement_limit wholes options
+limit_alike contents wholes options are =
+    elim (cut_alike 0 contents wholes are) [
+      | inl same ↦ subst (λ (l : List (List ℕ)). placement_limit contents options ≤ placement_limit l options) same (omega arith)
+      | inr alike ↦
+          let none : placement_limit contents options ≡ 0 =
+          ap (placements_by contents options) (files_early contents options alike.refusal alike.contents_refused) in
+          omega (arith, none)
+    ]
+
+counts_held : (told : Option Files) (options : LinkOptions) (names wholes : List (List ℕ)) (old new : ℕ) → AreFiles told names wholes →
+    new ≤ old + placement_limit wholes options → CountsOver told options names old new
+counts_held None options names wholes old new are most = (wholes, most)
+counts_held (Some files) options names wholes old new are most =
+    subst (λ (l : List (List ℕ)). new ≤ old + placement_limit l options) (sym (held_contents files names wholes are)) most
+
+-- so a link of what was read counts as one of the files may
+pub link_counts : (told : Option Files) (options options' : LinkOptions) (names contents : List (List ℕ)) (old new : ℕ) →
+    options' ≡ options → HaveRead told names contents → new ≤ old + placement_limit contents options' →
+    CountsOver told options names old new
+link_counts told options options' names contents old new same read most =
+    let held = wholes_read told names contents read in
+    let limit = limit_alike contents held.wholes options held.cut in
+    let here : new ≤ old + placement_limit contents options =
+    subst (λ (o : LinkOptions). new ≤ old + placement_limit contents o) same most in
+    counts_held told options names held.wholes old new held.are (omega (arith, limit, here))
+
+-- where none is counted
+pub counts_none : (told : Option Files) (options : LinkOptions) (names : List (List ℕ)) (old new : ℕ) → new ≡ old →
+    CountsOver told options names old new
+counts_none None options names old new same = ([], omega (arith, same))
+counts_none (Some files) options names old new same = omega (arith, same)

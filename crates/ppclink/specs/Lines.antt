@@ -5,7 +5,7 @@ use Rattle.elf64_records.specs.declared.fault.Place.{Place}
 use Rattle.elf64_records.specs.declared.fault.Place.TheVariants.{File, Section, Symbol, Record}
 use Rattle.object_set.specs.declared.refusal.Site.{Site}
 use Rattle.object_set.specs.declared.refusal.Refusal.{Refusal}
-use Rattle.object_set.specs.declared.refusal.Refusal.TheVariants.{FileTooLong, NotElf, NotPpc64Le, SharedObject, NotObject, BadAbi, BadTable, Unsupported, UnsupportedAt, Tls, TlsAt, BadSection, BadAlign, BadSymbol, Duplicate, NoEntry, EntryNotCode, UnknownReloc, BadSite, Unresolved, NotCode, DataTooBig, NoRestore, TextTooBig, StubReach, Overflow, NotBuilt, Memory}
+use Rattle.object_set.specs.declared.refusal.Refusal.TheVariants.{FileTooLong, NotElf, NotPpc64Le, SharedObject, NotObject, BadAbi, BadTable, Unsupported, UnsupportedAt, Tls, TlsAt, BadSection, BadAlign, BadSymbol, Duplicate, NoEntry, EntryNotCode, UnknownReloc, BadSite, Unresolved, NotCode, DataTooBig, NoRestore, TextTooBig, StubReach, Overflow, Memory}
 
 -- a line of the linker
 abbrev pub line : List ℕ → List ℕ
@@ -70,5 +70,4 @@ refusal_line names (NoRestore site) = about (name_in names site.file) (site_text
 refusal_line names TextTooBig = line (codes "text too big")
 refusal_line names (StubReach site) = about (name_in names site.file) (site_text site) (codes "stub out of reach")
 refusal_line names (Overflow site value) = about (name_in names site.file) (site_text site) (codes "overflow " ++ signed_decimal value)
-refusal_line names (NotBuilt file) = about (name_in names file) [] (codes "not built yet")
 refusal_line names Memory = []

@@ -1,5 +1,5 @@
 -- What the words of a command ask for.
-use Rattle.std.specs.Prelude.{ℕ, Bool, nat_le, false, ◌==◌, ◌&&◌, not, List, [], ◌∷◌, map, length, codes, Option, Some, None, if◌then◌else◌, String, string_bytes, Vec}
+use Rattle.std.specs.Prelude.{ℕ, Bool, nat_le, false, ◌%◌, ◌==◌, ◌&&◌, not, List, [], ◌∷◌, map, length, codes, Option, Some, None, if◌then◌else◌, String, string_bytes, Vec}
 use Rattle.std.specs.List.{list_all}
 use Rattle.std.specs.Str.{bytes_eq}
 use Rattle.std.specs.declared.alloc.Global.{Global}
@@ -35,30 +35,69 @@ usual_entry = codes "_start"
 abbrev pub are_files : List (List ℕ) → Bool
 are_files files = nat_le 1 (length files) && nat_le (length files) 4096 && list_all is_file_name files
 
--- the options of a link that names no spans
-abbrev pub usual_options : List ℕ → LinkOptions
-usual_options entry = record { entry = entry; branch_span = BRANCH_SPAN; toc_span = TOC_SPAN }
+-- a number of those that are allowed
+abbrev pub allowed : (ℕ → Bool) → Option ℕ → Option ℕ
+allowed passes None = None
+allowed passes (Some n) = if passes n then Some n else None
 
--- the files of a link, behind its options
-abbrev pub link_from : List ℕ → LinkOptions → List (List ℕ) → Option Request
-link_from out options files = if are_files files then Some (link_to out options files) else None
+-- a branch span is a multiple of 4 from 0x100 on
+abbrev pub is_branch_span : ℕ → Bool
+is_branch_span n = n % 4 == 0 && nat_le 0x100 n && nat_le n BRANCH_SPAN
+
+-- a TOC span is a multiple of 8 from 16 on
+abbrev pub is_toc_span : ℕ → Bool
+is_toc_span n = n % 8 == 0 && nat_le 16 n && nat_le n TOC_SPAN
+
+-- the spans that words write; None where they write none that is allowed
+abbrev pub branch_span_of : List ℕ → Option ℕ
+branch_span_of word = allowed is_branch_span (number_of word)
+
+abbrev pub toc_span_of : List ℕ → Option ℕ
+toc_span_of word = allowed is_toc_span (number_of word)
+
+-- the files of a link, behind its options; None stands for a number that isn't allowed
+unfoldable pub link_from : List ℕ → List ℕ → Option ℕ → Option ℕ → List (List ℕ) → Option Request
+link_from out entry (Some branch) (Some toc) files =
+    if are_files files then Some (link_to out (record { entry = entry; branch_span = branch; toc_span = toc }) files) else None
+link_from out entry branch toc files = None
+
+-- an option at the front of words, with its value and the words behind it
+pub record Valued : Type 0 where
+  pub value : List ℕ
+  pub rest : List (List ℕ)
+
+unfoldable pub option_in : List ℕ → List (List ℕ) → Option Valued
+option_in name (option ∷ value ∷ words) = if bytes_eq option name then Some (record { value = value; rest = words }) else None
+option_in name words = None
+
+-- [--toc-span N] FILE...
+abbrev pub link_by_toc : List ℕ → List ℕ → Option ℕ → List (List ℕ) → Option Valued → Option Request
+link_by_toc out entry branch words None = link_from out entry branch (Some TOC_SPAN) words
+link_by_toc out entry branch words (Some option) = link_from out entry branch (toc_span_of option.value) option.rest
+
+unfoldable pub link_with_toc : List ℕ → List ℕ → Option ℕ → List (List ℕ) → Option Request
+link_with_toc out entry branch words = link_by_toc out entry branch words (option_in (codes "--toc-span") words)
+
+-- [--branch-span N] [--toc-span N] FILE...
+abbrev pub link_by_branch : List ℕ → List ℕ → List (List ℕ) → Option Valued → Option Request
+link_by_branch out entry words None = link_with_toc out entry (Some BRANCH_SPAN) words
+link_by_branch out entry words (Some option) = link_with_toc out entry (branch_span_of option.value) option.rest
+
+unfoldable pub link_with_branch : List ℕ → List ℕ → List (List ℕ) → Option Request
+link_with_branch out entry words = link_by_branch out entry words (option_in (codes "--branch-span") words)
 
 -- an entry that was named; the name isn't empty
 abbrev pub link_named : List ℕ → List ℕ → List (List ℕ) → Option Request
-link_named out [] files = None
-link_named out (c ∷ entry) files = link_from out (usual_options (c ∷ entry)) files
+link_named out [] words = None
+link_named out (c ∷ entry) words = link_with_branch out (c ∷ entry) words
 
--- the usual entry
-abbrev pub link_usual : List ℕ → List (List ℕ) → Option Request
-link_usual out files = link_from out (usual_options usual_entry) files
-
--- [-e NAME] FILE...
+-- [-e NAME] [--branch-span N] [--toc-span N] FILE...
 abbrev pub link_with_entry : List ℕ → List (List ℕ) → Option Request
-link_with_entry out (option ∷ entry ∷ files) =
-    if bytes_eq option (codes "-e") then link_named out entry files else link_usual out (option ∷ entry ∷ files)
-link_with_entry out files = link_usual out files
+link_with_entry out (option ∷ entry ∷ words) =
+    if bytes_eq option (codes "-e") then link_named out entry words else link_with_branch out usual_entry (option ∷ entry ∷ words)
+link_with_entry out words = link_with_branch out usual_entry words
 
--- link -o OUT [-e NAME] FILE...
+-- link -o OUT [-e NAME] [--branch-span N] [--toc-span N] FILE...
 abbrev pub link_request : List (List ℕ) → Option Request
 link_request (option ∷ out ∷ words) = if bytes_eq option (codes "-o") && is_file_name out then link_with_entry out words else None
 link_request words = None

@@ -1,11 +1,13 @@
 -- What each status of the command means: a status is tied to the store and the console before and after the call, and to what the
 -- words ask for.
-use Rattle.std.specs.Prelude.{ℕ, ◌≡◌, ◌≢◌, ◌⊎◌, ◌<◌, ◌≤◌, List, Option, Some, None, Contains, IsSome}
+use Rattle.std.specs.Prelude.{ℕ, ◌≡◌, ◌≢◌, ◌⊎◌, ◌<◌, ◌≤◌, ◌+◌, List, Option, Some, None, Contains, IsSome}
 use Rattle.ppc_outside.specs.Outside.{Files, StoreState, ConsoleState, HasRisen, RoseOr, last_count, OnlyFetches, SameFiles, IsReplaced, ReplaceFails}
-use Rattle.ppclink.specs.Requests.{Request, names_of, names_asked, out_of}
+use Rattle.link_engine.specs.Link.{placement_limit}
+use Rattle.link_engine.specs.Options.{LinkOptions}
+use Rattle.ppclink.specs.Requests.{Request, link_to, show_file, run_image, names_of, names_asked, out_of}
 use Rattle.ppclink.specs.Lines.{usage_line, unread_line}
 use Rattle.ppclink.specs.Runs.{Response, printed, written}
-use Rattle.ppclink.specs.Responses.{first_missing, RespondsOver, ComesTo}
+use Rattle.ppclink.specs.Responses.{first_missing, contents_in, RespondsOver, ComesTo}
 
 -- a status; or 4 where a put failed, or 5 where memory was refused
 abbrev pub IsOr : ℕ → ℕ → ConsoleState → ConsoleState → Type 0
@@ -111,6 +113,18 @@ abbrev pub status_of : Response → ℕ
 status_of (printed status text) = status
 status_of (written out image) = 0
 
--- how far the counter of steps goes: no call counts one
+-- a link counts a step for each time that it places a text: over the files, where the store tells them, and else over any contents
+abbrev pub CountsOver : Option Files → LinkOptions → List (List ℕ) → ℕ → ℕ → Type 0
+CountsOver None options names old new = (contents : List (List ℕ)) × (new ≤ old + placement_limit contents options)
+CountsOver (Some files) options names old new = new ≤ old + placement_limit (contents_in files names) options
+
+-- no other request counts one
+abbrev pub CountsBy : Option Files → Request → ℕ → ℕ → Type 0
+CountsBy told (link_to out options names) old new = CountsOver told options names old new
+CountsBy told (show_file name) old new = new ≡ old
+CountsBy told (run_image options image) old new = new ≡ old
+
+-- how far the counter of steps goes
 abbrev pub Ticks : StoreState → Option Request → ℕ → ℕ → Type 0
-Ticks store found old new = new ≡ old
+Ticks store None old new = new ≡ old
+Ticks store (Some request) old new = CountsBy store.told request old new

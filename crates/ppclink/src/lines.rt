@@ -130,7 +130,8 @@ impl Lines<'_> {
 
     fn site(&self, site: &Site, what: &[u8]) -> Result<Vec<u8>, Memory>
         ensures { IfOk result (λ text. text.items
-            ≡ about (name_in (texts self.now.names.now) site.now.file) (site_text site.now) what.now) }
+            ≡ about (name_in (texts self.now.names.now) site.now.file) (site_text site.now)
+            what.now) }
     {
         let place = site_text(self.alloc, site)?;
         about(self.alloc, self.name(site.file), &place, what)
@@ -192,7 +193,6 @@ pub fn refusal_line(alloc: Global, names: &[String], refusal: &Refusal) -> Resul
         Refusal::SharedObject(file) => of.file(*file, b"shared object"),
         Refusal::NotObject(file) => of.file(*file, b"not a relocatable file"),
         Refusal::BadAbi(file) => of.file(*file, b"not ELFv2"),
-        Refusal::NotBuilt(file) => of.file(*file, b"not built yet"),
         Refusal::BadTable(file, place) => of.place(*file, *place, b"bad table"),
         Refusal::Unsupported(file, place) => of.place(*file, *place, b"unsupported"),
         Refusal::Tls(file, place) => of.place(*file, *place, b"thread-local storage"),

@@ -1,10 +1,10 @@
 // What the command does over the files, before it prints.
 ghost use Rattle.std.specs.Prelude.{◌≡◌, ◌≤◌, length, Some, None, IfOk, IfErr, OnOk, string_bytes};
 ghost use Rattle.object_set.specs.Files.{contents_of};
-ghost use Rattle.link_engine.specs.Options.{InRange};
 ghost use Rattle.ppclink.specs.Requests.{request_of, texts, link_to, show_file};
 ghost use Rattle.ppclink.specs.Responses.{view_refusal};
-ghost use Rattle.ppclink.specs.inside.Commands.{link_options};
+ghost use Rattle.ppclink.specs.Statuses.{CountsOver, Ticks};
+ghost use Rattle.ppclink.specs.inside.Commands.{link_options, CanLink};
 ghost use Rattle.ppclink.specs.inside.Fetched.{HaveRead};
 ghost use Rattle.ppclink.specs.inside.Reports.{Causes, ReplaceReport, TextReport, ShowsFile};
 
@@ -15,7 +15,7 @@ use crate::running::perform_run;
 use crate::show::shown;
 use crate::words::{Command, LinkOptions, parse};
 use elf64_records::{FILE_LIMIT, ObjectView};
-use link_engine::{BRANCH_SPAN, FileBytes, Options, Refusal, Steps, TOC_SPAN, link};
+use link_engine::{FileBytes, Options, Refusal, Steps, link};
 use object_set::refusal_of;
 use ppc_bytes::Memory;
 use ppc_outside::{OutsideError, Store};
@@ -36,13 +36,12 @@ fn write_out<S: Store>(out: &str, image: &[u8], store: &mut S) -> Report
 
 // The options as the link takes them.
 fn options_of(alloc: Global, options: LinkOptions<'_>) -> Result<Options, Memory>
-    ensures range { IfOk result InRange }
-    ensures same { IfOk result (λ o. o ≡ link_options options.entry) }
+    ensures { IfOk result (λ o. o ≡ link_options options.entry) }
 {
     Ok(Options {
         entry: String::from_str(alloc, options.entry)?,
-        branch_span: BRANCH_SPAN,
-        toc_span: TOC_SPAN,
+        branch_span: options.branch_span,
+        toc_span: options.toc_span,
     })
 }
 
@@ -56,13 +55,13 @@ fn link_fetched<S: Store, L: Ledger>(
     store: &mut S,
     steps: &mut Steps<L>,
 ) -> Report
-    requires some { 1 ≤ length names.now }
-    requires few { length names.now ≤ 4096 }
+    requires allowed { CanLink (link_options options) (length names.now) }
     requires count { length files.now ≡ length names.now }
     requires read { HaveRead (S.state store.old).told (texts names.now) (contents_of files.now) }
     ensures causes { Causes (S.state store.old) (S.state store.new)
         (Some (link_to out.now (link_options options.entry) (texts names.now))) result }
-    ensures steps { steps.new ≡ steps.old }
+    ensures steps { CountsOver (S.state store.old).told (link_options options.entry)
+        (texts names.now) steps.old steps.new }
 {
     let Ok(options) = options_of(alloc, options) else {
         return Report::NoMemory;
@@ -82,11 +81,11 @@ fn perform_link<S: Store, L: Ledger>(
     store: &mut S,
     steps: &mut Steps<L>,
 ) -> Report
-    requires some { 1 ≤ length names.now }
-    requires few { length names.now ≤ 4096 }
+    requires allowed { CanLink (link_options options) (length names.now) }
     ensures causes { Causes (S.state store.old) (S.state store.new)
         (Some (link_to out.now (link_options options.entry) (texts names.now))) result }
-    ensures steps { steps.new ≡ steps.old }
+    ensures steps { CountsOver (S.state store.old).told (link_options options.entry)
+        (texts names.now) steps.old steps.new }
 {
     match fetch_files(alloc, names, store) {
         Ok(files) => link_fetched(alloc, out, options, names, files.as_slice(), store, steps),
@@ -143,7 +142,7 @@ pub fn perform<S: Store, L: Ledger>(
         (request_of (texts words.now)) result }
     ensures untouched { request_of (texts words.now) ≡ None →
         S.state store.new ≡ S.state store.old }
-    ensures steps { steps.new ≡ steps.old }
+    ensures steps { Ticks (S.state store.old) (request_of (texts words.now)) steps.old steps.new }
 {
     match parse(words) {
         Some(

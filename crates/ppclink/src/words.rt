@@ -1,11 +1,12 @@
 // The words of a command.
-ghost use Rattle.std.specs.Prelude.{◌≡◌, IfSome, string_bytes};
+ghost use Rattle.std.specs.Prelude.{◌≡◌, true, IfSome, string_bytes};
 ghost use Rattle.std.specs.List.{list_all};
 ghost use Rattle.std.specs.Option.{option_map};
-ghost use Rattle.ppclink.specs.Requests.{request_of, link_request, link_with_entry, link_from, are_files, show_request, run_request, run_with_input, run_from, texts, is_file_name};
-ghost use Rattle.ppclink.specs.inside.Commands.{meaning, link_options, HasFiles};
+ghost use Rattle.ppclink.specs.Requests.{request_of, link_request, link_with_entry, link_with_branch, link_with_toc, link_from, option_in, branch_span_of, toc_span_of, is_branch_span, is_toc_span, are_files, show_request, run_request, run_with_input, run_from, texts, is_file_name};
+ghost use Rattle.ppclink.specs.inside.Commands.{meaning, valued, IsAllowed};
 
 use crate::numbers::number_of;
+use link_engine::{BRANCH_SPAN, TOC_SPAN};
 
 /// How many steps a run takes at most where the words don't say.
 const USUAL_BUDGET: u32 = 1_000_000;
@@ -21,6 +22,10 @@ const FILE_COUNT_LIMIT: usize = 4096;
 pub struct LinkOptions<'a> {
     /// The name of the symbol where the executable is entered.
     pub entry: &'a str,
+    /// How far a branch reaches, in bytes either way.
+    pub branch_span: u32,
+    /// How large a TOC group may grow, in bytes.
+    pub toc_span: u32,
 }
 
 /// The options of a run.
@@ -83,16 +88,73 @@ fn are_files(words: &[String]) -> bool
     count != 0 && count <= FILE_COUNT_LIMIT && are_file_names(words)
 }
 
+// The branch span that a word writes, if it is one that is allowed.
+fn branch_span_of(word: &str) -> Option<u32>
+    ensures span { result ≡ branch_span_of word.now }
+    ensures allowed { IfSome result (λ n. is_branch_span n ≡ true) }
+{
+    let span = number_of(word)?;
+    if span % 4 == 0 && 0x100 <= span && span <= BRANCH_SPAN {
+        Some(span)
+    } else {
+        None
+    }
+}
+
+// The TOC span that a word writes, if it is one that is allowed.
+fn toc_span_of(word: &str) -> Option<u32>
+    ensures span { result ≡ toc_span_of word.now }
+    ensures allowed { IfSome result (λ n. is_toc_span n ≡ true) }
+{
+    let span = number_of(word)?;
+    if span % 8 == 0 && 16 <= span && span <= TOC_SPAN {
+        Some(span)
+    } else {
+        None
+    }
+}
+
+// An option's value, and the words behind it.
+#[derive(Clone, Copy)]
+struct OptionValue<'a> {
+    value: &'a str,
+    rest: &'a [String],
+}
+
+// The option of this name at the front of words, if it is there with a value.
+#[tactic(auto, unfolding(crate::specs::Requests::option_in))]
+fn option_in<'a>(name: &str, words: &'a [String]) -> Option<OptionValue<'a>>
+    ensures { option_map valued result ≡ option_in name.now (texts words.now) }
+{
+    match words {
+        [option, value, rest @ ..] if option.as_str() == name => Some(OptionValue {
+            value: value.as_str(),
+            rest,
+        }),
+        _ => None,
+    }
+}
+
 // The words of a link behind its options.
+#[tactic(auto, unfolding(crate::specs::Requests::link_from))]
 fn parse_files<'a>(
     out: &'a str,
-    options: LinkOptions<'a>,
+    entry: &'a str,
+    branch: Option<u32>,
+    toc: Option<u32>,
     words: &'a [String],
 ) -> Option<Command<'a>>
+    requires branch { IfSome branch (λ n. is_branch_span n ≡ true) }
+    requires toc { IfSome toc (λ n. is_toc_span n ≡ true) }
     ensures value { option_map meaning result
-        ≡ link_from out.now (link_options options.entry) (texts words.now) }
-    ensures files { IfSome result HasFiles }
+        ≡ link_from out.now entry.now branch toc (texts words.now) }
+    ensures allowed { IfSome result IsAllowed }
 {
+    let options = LinkOptions {
+        entry,
+        branch_span: branch?,
+        toc_span: toc?,
+    };
     if are_files(words) {
         Some(Command::Link {
             out,
@@ -104,28 +166,59 @@ fn parse_files<'a>(
     }
 }
 
+// The words of a link behind its branch span.
+#[tactic(auto, unfolding(crate::specs::Requests::link_with_toc))]
+fn parse_toc<'a>(
+    out: &'a str,
+    entry: &'a str,
+    branch: Option<u32>,
+    words: &'a [String],
+) -> Option<Command<'a>>
+    requires { IfSome branch (λ n. is_branch_span n ≡ true) }
+    ensures value { option_map meaning result
+        ≡ link_with_toc out.now entry.now branch (texts words.now) }
+    ensures allowed { IfSome result IsAllowed }
+{
+    match option_in("--toc-span", words) {
+        Some(option) => parse_files(out, entry, branch, toc_span_of(option.value), option.rest),
+        None => parse_files(out, entry, branch, Some(TOC_SPAN), words),
+    }
+}
+
+// The words of a link behind its entry.
+#[tactic(auto, unfolding(crate::specs::Requests::link_with_branch))]
+fn parse_branch<'a>(out: &'a str, entry: &'a str, words: &'a [String]) -> Option<Command<'a>>
+    ensures value { option_map meaning result
+        ≡ link_with_branch out.now entry.now (texts words.now) }
+    ensures allowed { IfSome result IsAllowed }
+{
+    match option_in("--branch-span", words) {
+        Some(option) => parse_toc(out, entry, branch_span_of(option.value), option.rest),
+        None => parse_toc(out, entry, Some(BRANCH_SPAN), words),
+    }
+}
+
 // The words of a link behind the name of the executable.
 fn parse_entry<'a>(out: &'a str, words: &'a [String]) -> Option<Command<'a>>
     ensures value { option_map meaning result ≡ link_with_entry out.now (texts words.now) }
-    ensures files { IfSome result HasFiles }
+    ensures allowed { IfSome result IsAllowed }
 {
     match words {
-        [option, entry, files @ ..] if option.as_str() == "-e" => {
+        [option, entry, rest @ ..] if option.as_str() == "-e" => {
             if entry.is_empty() {
                 None
             } else {
-                let entry = entry.as_str();
-                parse_files(out, LinkOptions { entry }, files)
+                parse_branch(out, entry.as_str(), rest)
             }
         }
-        _ => parse_files(out, LinkOptions { entry: USUAL_ENTRY }, words),
+        _ => parse_branch(out, USUAL_ENTRY, words),
     }
 }
 
 // The words behind `link`.
 fn parse_link(words: &[String]) -> Option<Command<'_>>
     ensures value { option_map meaning result ≡ link_request (texts words.now) }
-    ensures files { IfSome result HasFiles }
+    ensures allowed { IfSome result IsAllowed }
 {
     match words {
         [option, out, rest @ ..] if option.as_str() == "-o" && is_file_name(out.as_str()) => {
@@ -138,7 +231,7 @@ fn parse_link(words: &[String]) -> Option<Command<'_>>
 // The words behind `show`.
 fn parse_show(words: &[String]) -> Option<Command<'_>>
     ensures value { option_map meaning result ≡ show_request (texts words.now) }
-    ensures files { IfSome result HasFiles }
+    ensures allowed { IfSome result IsAllowed }
 {
     match words {
         [file] if is_file_name(file.as_str()) => Some(Command::Show { file }),
@@ -155,7 +248,7 @@ fn parse_image<'a>(
 ) -> Option<Command<'a>>
     ensures value { option_map meaning result
         ≡ run_from budget (option_map (λ i. i.now) input.entry) (texts words.now) }
-    ensures files { IfSome result HasFiles }
+    ensures allowed { IfSome result IsAllowed }
 {
     match words {
         [image] if is_file_name(image.as_str()) => {
@@ -176,7 +269,7 @@ fn parse_image<'a>(
 #[tactic(auto, unfolding(crate::specs::Requests::run_with_input))]
 fn parse_input(budget: Option<u32>, words: &[String]) -> Option<Command<'_>>
     ensures value { option_map meaning result ≡ run_with_input budget (texts words.now) }
-    ensures files { IfSome result HasFiles }
+    ensures allowed { IfSome result IsAllowed }
 {
     match words {
         [option, input, rest @ ..] if option.as_str() == "-i" => {
@@ -193,7 +286,7 @@ fn parse_input(budget: Option<u32>, words: &[String]) -> Option<Command<'_>>
 // The words behind `run`.
 fn parse_run(words: &[String]) -> Option<Command<'_>>
     ensures value { option_map meaning result ≡ run_request (texts words.now) }
-    ensures files { IfSome result HasFiles }
+    ensures allowed { IfSome result IsAllowed }
 {
     match words {
         [option, number, rest @ ..] if option.as_str() == "-n" => {
@@ -206,7 +299,7 @@ fn parse_run(words: &[String]) -> Option<Command<'_>>
 /// Reads the words; None exactly where they aren't of the grammar.
 pub fn parse(words: &[String]) -> Option<Command<'_>>
     ensures value { option_map meaning result ≡ request_of (texts words.now) }
-    ensures files { IfSome result HasFiles }
+    ensures allowed { IfSome result IsAllowed }
 {
     let [command, rest @ ..] = words else {
         return None;

@@ -1,6 +1,6 @@
 // The files that the tables name.
-use elf64_records::constants::{STB_LOCAL, STT_FUNC};
-use object_builder::{FileHeader, Object, Section, Stated, Symbol};
+use elf64_records::constants::{STB_LOCAL, STB_WEAK, STT_FUNC};
+use object_builder::{FileHeader, Object, Record, Section, Stated, Symbol};
 use ppc_outside::MemStore;
 use std::alloc::Global;
 use std::test::Fail;
@@ -28,8 +28,137 @@ pub const SMALLEST: Object = Object {
     ..Object::EMPTY
 };
 
-/// The smallest object and others that differ from it in one thing.
-static OBJECTS: [(&str, Object); 12] = [
+/// nop; nop; bl .; blr
+const CALL: &[u8] = b"\x00\x00\x00\x60\x00\x00\x00\x60\x01\x00\x00\x48\x20\x00\x80\x4e";
+
+/// A call at offset 8, of symbol 1 (R_PPC64_REL24).
+const CALLING: Section = Section {
+    bytes: CALL,
+    records: &[Record {
+        offset: 8,
+        kind: 10,
+        symbol: 1,
+        addend: 0,
+    }],
+    ..Section::TEXT
+};
+
+/// blr, and a load from two bytes behind symbol 1, by a distance from the TOC base (R_PPC64_TOC16_LO_DS).
+const LOADING: Section = Section {
+    bytes: b"\x20\x00\x80\x4e\x00\x00\x69\xe8",
+    records: &[Record {
+        offset: 4,
+        kind: 64,
+        symbol: 1,
+        addend: 2,
+    }],
+    align: 8,
+    ..Section::TEXT
+};
+
+const G: Symbol = Symbol {
+    name: b"g",
+    ..START
+};
+
+const HERE: Symbol = Symbol {
+    name: b"here",
+    info: STB_LOCAL << 4,
+    ..START
+};
+
+/// The smallest object and others that differ from it in one thing, and some that are refused later.
+static OBJECTS: [(&str, Object); 18] = [
+    (
+        "g.o",
+        Object {
+            symbols: &[G],
+            ..SMALLEST
+        },
+    ),
+    (
+        "weak.o",
+        Object {
+            symbols: &[Symbol {
+                info: STB_WEAK << 4 | STT_FUNC,
+                ..G
+            }],
+            ..SMALLEST
+        },
+    ),
+    // nothing defines what it calls
+    (
+        "u.o",
+        Object {
+            sections: &[CALLING],
+            symbols: &[
+                Symbol {
+                    name: b"u",
+                    section: 0,
+                    size: 0,
+                    ..START
+                },
+                START,
+            ],
+            ..SMALLEST
+        },
+    ),
+    // it calls a function that may change r2, and no nop stands behind the call
+    (
+        "nonop.o",
+        Object {
+            sections: &[CALLING],
+            symbols: &[
+                Symbol {
+                    value: 12,
+                    size: 4,
+                    other: 1 << 5,
+                    ..HERE
+                },
+                START,
+            ],
+            ..SMALLEST
+        },
+    ),
+    // a byte more of data than can be
+    (
+        "data.o",
+        Object {
+            sections: &[
+                SECTION,
+                Section {
+                    stated: Stated {
+                        size: Some(0x3000_0001),
+                        ..Stated::TRUE
+                    },
+                    ..Section::ZEROED
+                },
+            ],
+            ..SMALLEST
+        },
+    ),
+    // the displacement of a doubleword's load is no multiple of 4
+    (
+        "odd.o",
+        Object {
+            sections: &[
+                LOADING,
+                Section {
+                    bytes: &[0; 16],
+                    ..Section::DATA
+                },
+            ],
+            symbols: &[
+                Symbol {
+                    section: 2,
+                    size: 0,
+                    ..HERE
+                },
+                START,
+            ],
+            ..SMALLEST
+        },
+    ),
     ("t.o", SMALLEST),
     ("a.o", SMALLEST),
     ("c.o", SMALLEST),
@@ -44,7 +173,7 @@ static OBJECTS: [(&str, Object); 12] = [
             ..SMALLEST
         },
     ),
-    // a second kept section, where another file has the first
+    // its symbol is for itself alone
     (
         "local.o",
         Object {

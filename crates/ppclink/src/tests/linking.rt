@@ -12,6 +12,10 @@ link -o x a.o dropped.o             | | 0 |                                     
 link -o x dropped.o dropped.o c.o   | | 0 |                                              | 10000000
 link -o x -e _start a.o             | | 0 |                                              | 10000000
 link -o x -e _start dropped.o a.o   | | 0 |                                              | 10000000
+link -o x --branch-span 0x100 t.o   | | 0 |                                              | 10000000
+link -o x --toc-span 16 t.o         | | 0 |                                              | 10000000
+link -o x -e _start --branch-span 33554432 --toc-span 0x10000 t.o | | 0 |                | 10000000
+link -o x -e --toc-span t.o         | | 1 | ppclink: no entry --toc-span                 |
 link -o x late.o                    | | 0 |                                              | 10000004
 link -o x aligned.o                 | | 0 |                                              | 10000000
 link -o x -e main a.o               | | 1 | ppclink: no entry main                       |
@@ -19,7 +23,12 @@ link -o x -e -o a.o                 | | 1 | ppclink: no entry -o                
 link -o x dropped.o                 | | 1 | ppclink: no entry _start                     |
 link -o x a.o dropped.o c.o         | | 1 | ppclink: a.o and c.o: defined twice _start   |
 link -o x c.o a.o                   | | 1 | ppclink: c.o and a.o: defined twice _start   |
-link -o x a.o local.o               | | 1 | ppclink: local.o: not built yet              |
+link -o x local.o dropped.o         | | 1 | ppclink: no entry _start                     |
+link -o x g.o u.o g.o               | | 1 | ppclink: g.o and g.o: defined twice g        |
+link -o x g.o u.o weak.o            | | 1 | ppclink: u.o section 1 offset 0x8: unresolved u |
+link -o x nonop.o                   | | 1 | ppclink: nonop.o section 1 offset 0x8: no nop to restore r2 |
+link -o x data.o                    | | 1 | ppclink: data too big                        |
+link -o x odd.o                     | | 1 | ppclink: odd.o section 1 offset 0x4: overflow -32766 |
 link -o x shared.o                  | | 1 | ppclink: shared.o: shared object             |
 link -o x abi1.o                    | | 1 | ppclink: abi1.o: not ELFv2                   |
 link -o x table.o                   | | 1 | ppclink: table.o section 2: bad table        |
@@ -41,6 +50,7 @@ link -o x a.o no b.o  |           | 3 | ppclink: cannot read no   |
 link -o x no          | console 0 | 4 |                           |
 link -o x t.o         | console 0 | 0 |                           | 10000000
 link -o x t.o c.o     | console 0 | 4 |                           |
+link -o x nonop.o     | console 0 | 4 |                           |
 show t.o              | store 0   | 3 | ppclink: cannot read t.o  |
 show t.o              | console 0 | 4 |                           |
 run no                |           | 3 | ppclink: cannot read no   |
@@ -68,6 +78,17 @@ link -o x -e f                      | | 2 | ppclink: words not understood |
 link -o x -e                        | | 2 | ppclink: words not understood |
 link -e _start -o x t.o             | | 2 | ppclink: words not understood |
 link -o x t.o -e _start             | | 2 | ppclink: words not understood |
+link -o x --branch-span 0x402 t.o   | | 2 | ppclink: words not understood |
+link -o x --branch-span 252 t.o     | | 2 | ppclink: words not understood |
+link -o x --branch-span 0x2000004 t.o | | 2 | ppclink: words not understood |
+link -o x --branch-span t.o         | | 2 | ppclink: words not understood |
+link -o x --toc-span 8 t.o          | | 2 | ppclink: words not understood |
+link -o x --toc-span 20 t.o         | | 2 | ppclink: words not understood |
+link -o x --toc-span 0x10008 t.o    | | 2 | ppclink: words not understood |
+link -o x --toc-span t.o            | | 2 | ppclink: words not understood |
+link -o x --toc-span 16 --branch-span 0x100 t.o | | 2 | ppclink: words not understood |
+link -o x --toc-span 16 --toc-span 16 t.o | | 2 | ppclink: words not understood |
+link -o x --branch-span 0x100 -e _start t.o | | 2 | ppclink: words not understood |
 show                                | | 2 | ppclink: words not understood |
 show t.o t.o                        | | 2 | ppclink: words not understood |
 show -t.o                           | | 2 | ppclink: words not understood |

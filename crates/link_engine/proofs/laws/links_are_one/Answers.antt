@@ -1,6 +1,6 @@
-use Rattle.link_engine.specs.laws.Outcomes.{links_are_one, links_come_to_something}
+use Rattle.link_engine.specs.laws.Outcomes.{links_are_one}
 use Rattle.link_engine.proofs.laws.links_are_one.Goals as goal
 
--- a link comes to one thing, and to something
+-- a link comes to one thing
 pub returns : goal.returns
-returns c = record { one = links_are_one; some = links_come_to_something }
+returns c = links_are_one
