@@ -10,3 +10,4 @@ pub mod Files
 pub mod Reported
 pub mod Executing
 pub mod Endings
+pub mod Settling

@@ -4,6 +4,7 @@ use Rattle.std.specs.declared.alloc.Global.{Global}
 use Rattle.ppclink.specs.Requests.{request_of, texts}
 use Rattle.ppclink.specs.Statuses.{Ticks}
 use Rattle.ppclink.proofs.Endings as ends
+use Rattle.ppclink.proofs.Settling as settling
 use Rattle.ppclink.proofs.Endings.{call_of}
 use Rattle.ppclink.proofs.top.command.Goals as goal
 
@@ -30,10 +31,10 @@ returns g c =
       unwritten = ends.unwritten _ _ _ _ _ _ result call;
       unwritten_always = ends.unwritten_always _ _ _ _ _ _ result call;
       memory = ends.memory _ _ _ _ _ _ result call;
-      settled_text = λ status text. ends.settled_text _ _ _ _ _ _ result status text call;
-      settled_store = λ status text. ends.settled_store _ _ _ _ _ _ result status text call;
-      settled_file = λ out image. ends.settled_file _ _ _ _ _ _ result out image call;
-      complete = λ response. ends.complete _ _ _ _ _ _ result response call;
+      settled_text = λ status text. settling.settled_text _ _ _ _ _ _ result status text call;
+      settled_store = λ status text. settling.settled_store _ _ _ _ _ _ result status text call;
+      settled_file = λ out image. settling.settled_file _ _ _ _ _ _ result out image call;
+      complete = λ response. settling.complete _ _ _ _ _ _ result response call;
       unchanged = ends.unchanged _ _ _ _ _ _ result call;
       kept = ends.kept _ _ _ _ _ _ result call;
       only_links = ends.only_links _ _ _ _ _ _ result call;

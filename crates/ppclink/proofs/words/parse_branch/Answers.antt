@@ -1,5 +1,5 @@
 use Rattle.std.proofs.Common.{ℕ, Option, ap, ◌∙◌}
-use Rattle.ppclink.specs.Requests.{Valued, link_by_branch, link_with_branch, link_with_toc, texts}
+use Rattle.ppclink.specs.Requests.{link_by_branch, link_with_branch, link_with_toc, texts}
 use Rattle.ppclink.proofs.words.parse_branch.Goals as goal
 
 -- a span that is named
