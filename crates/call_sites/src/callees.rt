@@ -151,8 +151,7 @@ impl<'r, 'a, 'b> Calls<'r, 'a, 'b> {
         ensures { result ≡ is_recognised self.now.files number offset }
     {
         let SectionId { file, section } = text_section(self.res, number);
-        let bytes = self.bytes(number);
-        self.prologues(file).is_recognised(section, offset, bytes)
+        self.prologues(file).is_recognised(section, offset)
     }
 
     /// What the record of a call says.

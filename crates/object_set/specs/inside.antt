@@ -3,3 +3,4 @@ pub mod Cursor
 pub mod Left
 pub mod Records
 pub mod Rows
+pub mod Sorts

@@ -11,12 +11,13 @@ mod set;
 mod sort;
 mod symbol_readers;
 mod symbols;
+mod taken;
 mod walk;
 
 pub use files::FileBytes;
 pub use places::{RecordId, SectionId, SymbolId};
 pub use refusal::{Refusal, Site};
-pub use set::{ObjectSet, refusal_of};
+pub use set::{ObjectSet, fit_view, refusal_of, whole_view};
 pub use sort::Sort;
 pub use walk::{RecordIds, SectionIds, SymbolIds};
 

@@ -77,6 +77,10 @@ pub enum Refusal {
     StubReach(Site),
     /// The value, the second number, doesn't fit the record's field.
     Overflow(Site, i128),
+    /// At this place of the library, the second number, no member begins as a member does.
+    BadArchive(u32, u64),
+    /// A link has more than 4096 files.
+    TooManyFiles,
     /// Memory was refused.
     Memory,
 }

@@ -10,8 +10,9 @@ ghost use Rattle.object_set.specs.Refusals.{Answers, file_refusal, set_refusal, 
 use crate::files::FileBytes;
 use crate::refusal::Refusal;
 use crate::sections::check_sections;
-use crate::sort::{Sort, sort_of};
+use crate::sort::Sort;
 use crate::symbols::check_symbols;
+use crate::taken::TakenFile;
 use elf64_records::{ElfFault, FILE_LIMIT, ObjectView};
 use std::alloc::Global;
 use std::marker::Model;
@@ -19,7 +20,7 @@ use std::marker::Model;
 /// At most 4096 object files of which none is refused. Contracts see it as the list of the files' bytes. It borrows these bytes.
 #[derive(Drop)]
 pub struct ObjectSet<'a> {
-    views: Vec<ObjectView<'a>>,
+    files: Vec<TakenFile<'a>>,
 }
 
 impl<'a> Model for ObjectSet<'a> {
@@ -28,9 +29,9 @@ impl<'a> Model for ObjectSet<'a> {
 
     ghost Value = { List (List ℕ) };
 
-    ghost view = { λ s. s.views.items };
+    ghost view = { λ s. s.files.items };
 
-    ghost invariant = { λ s. (set_refusal s.views.items ≡ None) × (length s.views.items ≤ 4096) };
+    ghost invariant = { λ s. (set_refusal s.files.items ≡ None) × (length s.files.items ≤ 4096) };
 }
 
 /// The refusal of a file that has a fault.
@@ -47,9 +48,9 @@ pub fn refusal_of(file: u32, fault: ElfFault) -> Refusal
     }
 }
 
-/// The view of a file's bytes, or the file's refusal.
+/// The view of an object file's bytes, or the refusal of the file's first fault.
 #[tactic(auto, unfolding(crate::specs::Refusals::fault_refusal))]
-fn read<'a>(file: u32, bytes: &'a [u8]) -> Result<ObjectView<'a>, Refusal>
+pub fn whole_view<'a>(file: u32, bytes: &'a [u8]) -> Result<ObjectView<'a>, Refusal>
     requires { length bytes.now ≤ FILE_LIMIT }
     ensures refusal { Refuses result (fault_refusal file bytes.now) }
     ensures view { IfOk result (λ view. view ≡ bytes.now) }
@@ -62,14 +63,14 @@ fn read<'a>(file: u32, bytes: &'a [u8]) -> Result<ObjectView<'a>, Refusal>
 
 /// The view of a file's bytes that a link can take, or the file's refusal.
 #[tactic(auto, unfolding(crate::specs::Refusals::file_refusal))]
-fn take_file<'a>(file: u32, bytes: &'a [u8]) -> Result<ObjectView<'a>, Refusal>
+pub fn fit_view<'a>(file: u32, bytes: &'a [u8]) -> Result<ObjectView<'a>, Refusal>
     ensures refusal { Refuses result (file_refusal file bytes.now) }
     ensures view { IfOk result (λ view. view ≡ bytes.now) }
 {
     if bytes.len() > FILE_LIMIT {
         return Err(Refusal::FileTooLong(file));
     }
-    let view = read(file, bytes)?;
+    let view = whole_view(file, bytes)?;
     check_sections(file, &view)?;
     check_symbols(file, &view)?;
     Ok(view)
@@ -83,11 +84,12 @@ impl<'a> ObjectSet<'a> {
         ensures refusal { Answers result (set_refusal (contents_of files.now)) }
         ensures set { IfOk result (λ set. set ≡ contents_of files.now) }
     {
-        let mut views = Vec::new(alloc);
+        let mut taken = Vec::new(alloc);
         for (number, file) in files.iter().enumerate() {
-            views.push(take_file(number as u32, file.bytes.as_slice())?)?;
+            let view = fit_view(number as u32, file.bytes.as_slice())?;
+            taken.push(TakenFile::of(alloc, view)?)?;
         }
-        Ok(ObjectSet { views })
+        Ok(ObjectSet { files: taken })
     }
 
     /// The number of files.
@@ -96,7 +98,7 @@ impl<'a> ObjectSet<'a> {
         ensures few { result ≤ 4096 }
         ensures whole { set_refusal self.now ≡ None }
     {
-        self.views.len() as u32
+        self.files.len() as u32
     }
 
     /// The view of a file.
@@ -104,7 +106,7 @@ impl<'a> ObjectSet<'a> {
         requires { file < length self.now }
         ensures { result.now ≡ file_at self.now file }
     {
-        &self.views[file as usize]
+        self.files[file as usize].view()
     }
 
     /// The sort of a section of a file.
@@ -113,7 +115,7 @@ impl<'a> ObjectSet<'a> {
         requires section { section < e_shnum (file_at self.now file) }
         ensures { result ≡ sort_of (file_at self.now file) section }
     {
-        sort_of(self.view(file), section)
+        self.files[file as usize].sort_of(section)
     }
 
     /// The alignment of a section of a file in bytes, at least 1, and at least 4 for text.

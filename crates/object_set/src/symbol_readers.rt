@@ -60,7 +60,16 @@ impl<'a> ObjectSet<'a> {
         requires symbol { symbol < symbol_count (file_at self.now file) }
         ensures { result ≡ is_toc_base (file_at self.now file) symbol }
     {
-        symbol != 0 && self.view(file).symbol_is_named(symbol, TOC_BASE)
+        // no file defines `.TOC.`, so that only what is undefined is asked for its name
+        let _files = self.file_count();
+        if symbol == 0 {
+            return false;
+        }
+        let view = self.view(file);
+        if !view.symbol_entry(symbol).is_undefined() {
+            return false;
+        }
+        view.symbol_is_named(symbol, TOC_BASE)
     }
 
     /// The section in which the symbol lies, where its index is a section's number.

@@ -92,12 +92,25 @@ impl<R: Files + AllocGlobal + Drop> DirStore<R> {
         }
     }
 
+    // Makes room for the bytes of a file of the size that the system tells, up to the limit. Where it tells none, or there is no room, the
+    // file is read all the same.
+    fn make_room(&self, name: &str, limit: usize, into: &mut Vec<u8>)
+        ensures { into.new.items ≡ into.old.items }
+    {
+        if let Ok(found) = fs::metadata(&self.rt, name) {
+            let _room = into.reserve_exact(found.len().min(limit as u64) as usize);
+        }
+    }
+
     fn read_file(&self, name: &str, limit: usize, into: &mut Vec<u8>) -> Result<(), OutsideError>
         ensures ok { OnOk result (AppendsFront None limit into.old.items into.new.items) }
         ensures err { OnErr result (into.new.items ≡ into.old.items) }
     {
         match OpenOptions::new().read(true).open(&self.rt, name) {
-            Ok(mut file) => read_front(&mut file, limit, into),
+            Ok(mut file) => {
+                self.make_room(name, limit, into);
+                read_front(&mut file, limit, into)
+            }
             Err(_) => Err(OutsideError::Failed),
         }
     }

@@ -9,6 +9,10 @@ use Rattle.symbol_table.specs.Fields.{meets}
 use Rattle.symbol_table.specs.inside.Fields.{rank_of, AreHeld}
 use Rattle.symbol_table.specs.laws.FilteredLists.{filter_dropped, filter_taken, length-filter-take}
 
+-- what isn't below a number is that number or above
+pub not_before : (m n : ℕ) → ltb m n ≡ false → n ≤ m
+not_before m n test = grind (arith, nat_tests, test)
+
 -- a field that begins more than its width before a range has no bytes of it
 before_range : (own start width section from count low : ℕ) → width ≤ 8 → low ≡ from - 8 → own * 2 ^ 64 + start < section * 2 ^ 64 + low →
     (eqb own section && ltb (max start from) (min (start + width) (from + count))) ≡ false

@@ -7,6 +7,8 @@ pub mod NumberedCommons
 pub mod KindNumbers
 pub mod PlaceOrder
 pub mod FieldWindows
+pub mod FieldsApart
 pub mod FileRecords
 pub mod EntryPlaces
 pub mod JudgedRecords
+pub mod KeptPrologues

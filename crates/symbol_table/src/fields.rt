@@ -1,5 +1,5 @@
 // The fields that the relocation records of a file fill, by their places.
-ghost use Rattle.std.specs.Prelude.{◌≡◌, ◌<◌, ◌+◌, ◌^◌, ◌++◌, ◌==◌, IfOk, IfSome, OnOk, length, map};
+ghost use Rattle.std.specs.Prelude.{◌≡◌, ◌<◌, ◌+◌, ◌^◌, ◌++◌, ◌==◌, IfOk, IfSome, OnOk, IsTrue, length, map};
 ghost use Rattle.std.specs.List.{list_any};
 ghost use Rattle.elf64_records.specs.FileHeader.{e_shnum};
 ghost use Rattle.elf64_records.specs.Records.{record_count};
@@ -7,9 +7,9 @@ ghost use Rattle.object_set.specs.Files.{file_at};
 ghost use Rattle.object_set.specs.Walks.{IsRecord, records_in};
 ghost use Rattle.reloc_fields.specs.Table.{line_of};
 ghost use Rattle.symbol_table.specs.Fields.{kind_numbered, width_in, field_of, fields_of, fields_meeting, meets, comes_before, overlaps_earlier};
-ghost use Rattle.symbol_table.specs.inside.Fields.{place_of, IsFieldOf, AreOnlyTwo};
+ghost use Rattle.symbol_table.specs.inside.Fields.{place_of, IsFieldOf, AreOnlyTwo, EndsBefore};
 
-use crate::ordered_fields::{any_meets, has_earlier, only_two, sort_fields, window};
+use crate::ordered_fields::{any_meets, are_apart, has_earlier, only_two, sort_fields, window};
 use crate::places::FilePlace;
 use object_set::{ObjectSet, RecordId};
 use reloc_fields::{Kind, kind_of, width};
@@ -82,6 +82,16 @@ impl RecordField {
         }
     }
 
+    /// Whether it lies in an earlier section than another one, or ends where that one begins or before.
+    pub fn ends_before(&self, other: RecordField) -> bool
+        ensures { IsTrue result → EndsBefore self.now other }
+    {
+        self.id.section < other.id.section
+            || (self.id.section == other.id.section
+                && self.start <= other.start
+                && u64::from(self.width) <= other.start - self.start)
+    }
+
     /// Whether it has bytes among so many of a section from an offset on.
     pub fn meets(&self, section: u32, from: u64, count: u32) -> bool
         ensures { result ≡ meets section from count self.now }
@@ -103,16 +113,18 @@ pub struct FileFields<'a, 'b> {
     file: u32,
     /// The fields in order of their places.
     items: Vec<RecordField>,
+    /// Each ends before the next one begins.
+    apart: bool,
 }
 
 impl<'a, 'b> Model for FileFields<'a, 'b> {
-    ghost use Rattle.symbol_table.specs.inside.Fields.{FileOf, AreFileFields};
+    ghost use Rattle.symbol_table.specs.inside.Fields.{FileOf, AreKeptFields};
 
     ghost Value = { FileOf };
 
     ghost view = { λ f. record { files = f.set.now; file = f.file } };
 
-    ghost invariant = { λ f. AreFileFields f.set.now f.file f.items.items };
+    ghost invariant = { λ f. AreKeptFields f.set.now f.file f.items.items f.apart };
 }
 
 /// Puts the fields of the records of a section behind others.
@@ -153,7 +165,13 @@ impl<'a, 'b> FileFields<'a, 'b> {
             push_table(&mut items, set, file, table)?;
         }
         sort_fields(&mut items);
-        Ok(FileFields { set, file, items })
+        let apart = are_apart(&items);
+        Ok(FileFields {
+            set,
+            file,
+            items,
+            apart,
+        })
     }
 
     /// The set of files.
@@ -183,6 +201,9 @@ impl<'a, 'b> FileFields<'a, 'b> {
         ensures { let b = file_at self.now.files id.file in
             result ≡ overlaps_earlier id.file b id }
     {
+        if self.apart {
+            return false;
+        }
         let field = RecordField::of_record(self.set, id);
         let (section, start, width) = (id.section, field.start, field.width);
         has_earlier(window(&self.items, section, start, width), field)

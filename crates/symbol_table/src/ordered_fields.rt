@@ -4,7 +4,7 @@ ghost use Rattle.std.specs.List.{slice_index_or, list_any};
 ghost use Rattle.std.specs.List.Sorted.{IsPermutation, IsNonDecreasingBy};
 ghost use Rattle.symbol_table.specs.Fields.{meets, comes_before};
 ghost use Rattle.symbol_table.specs.inside.Places.{rank};
-ghost use Rattle.symbol_table.specs.inside.Fields.{rank_of, AreTwo};
+ghost use Rattle.symbol_table.specs.inside.Fields.{rank_of, AreTwo, AreApart};
 
 use crate::fields::{RecordField, comes_before};
 use crate::places::FilePlace;
@@ -34,6 +34,19 @@ pub fn sort_fields(fields: &mut Vec<RecordField>)
     }
 }
 
+/// Whether each of fields in order ends before the next one begins, so that no two have a byte in common. Those of a compiler's files
+/// mostly do.
+pub fn are_apart(fields: &[RecordField]) -> bool
+    ensures { IsTrue result → AreApart fields.now }
+{
+    for i in 1..fields.len() {
+        if !fields[i - 1].ends_before(fields[i]) {
+            return false;
+        }
+    }
+    true
+}
+
 /// How many of fields in order begin before a place.
 fn count_before(fields: &[RecordField], place: FilePlace) -> usize
     requires { IsNonDecreasingBy rank_of fields.now }
@@ -44,6 +57,21 @@ fn count_before(fields: &[RecordField], place: FilePlace) -> usize
         rank place ≤ rank_of (slice_index_or fields.now k d) }
 {
     fields.partition_point(|f| f.place().is_before(place))
+}
+
+/// How many of the first fields, of fields in order, begin before a place: they are gone through, since mostly they are few.
+fn walk_before(fields: &[RecordField], place: FilePlace) -> usize
+    requires { IsNonDecreasingBy rank_of fields.now }
+    ensures within { result ≤ length fields.now }
+    ensures after { (k : ℕ) (d : RecordField) → result ≤ k → k < length fields.now →
+        rank place ≤ rank_of (slice_index_or fields.now k d) }
+{
+    for i in 0..fields.len() {
+        if !fields[i].place().is_before(place) {
+            return i;
+        }
+    }
+    fields.len()
 }
 
 /// The part of fields in order that holds those that have bytes among so many of a section from an offset on.
@@ -63,7 +91,7 @@ pub fn window(fields: &[RecordField], section: u32, from: u64, count: u32) -> &[
         offset: from + u64::from(count),
     };
     let rest = &fields[count_before(fields, first)..];
-    &rest[..count_before(rest, end)]
+    &rest[..walk_before(rest, end)]
 }
 
 /// Whether one of fields has bytes that are also this one's, and is an earlier record's.

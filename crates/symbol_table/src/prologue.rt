@@ -1,5 +1,5 @@
 // Prologues by which functions with two entry points make their TOC base.
-ghost use Rattle.std.specs.Prelude.{◌≡◌, ◌<◌, ◌≤◌, ◌+◌, ◌^◌, ◌++◌, ℕ, IfOk, OnOk, length};
+ghost use Rattle.std.specs.Prelude.{◌≡◌, ◌<◌, ◌≤◌, ◌+◌, ◌^◌, ◌++◌, true, IfOk, OnOk, length, filter};
 ghost use Rattle.std.specs.List.{list_any};
 ghost use Rattle.std.specs.Ordering.{int_eq};
 ghost use Rattle.std.specs.List.Sorted.{IsPermutation, IsNonDecreasingBy};
@@ -12,7 +12,7 @@ ghost use Rattle.symbol_table.specs.Prologue.{facts_of, is_half, are_halves, has
 ghost use Rattle.symbol_table.specs.Fields.{fields_meeting};
 ghost use Rattle.symbol_table.specs.inside.Fields.{IsFieldOf};
 ghost use Rattle.symbol_table.specs.inside.Places.{rank, is_place};
-ghost use Rattle.symbol_table.specs.inside.Entries.{entry_at, AreEntries};
+ghost use Rattle.symbol_table.specs.inside.Entries.{entry_at, has_prologue, AreEntries};
 
 use crate::fields::{FileFields, RecordField, is_of_kind};
 use crate::places::FilePlace;
@@ -182,47 +182,31 @@ pub fn is_half(set: &ObjectSet, field: RecordField, kind: Kind, addend: i64, at:
 #[derive(Drop)]
 pub struct Prologues<'a, 'b> {
     fields: FileFields<'a, 'b>,
-    entries: EntryPlaces,
+    /// Their places. Each is tried once, since many calls may ask for it.
+    places: EntryPlaces,
 }
 
 impl<'a, 'b> Model for Prologues<'a, 'b> {
     ghost use Rattle.object_set.specs.Files.{file_at};
     ghost use Rattle.symbol_table.specs.inside.Fields.{FileOf};
-    ghost use Rattle.symbol_table.specs.inside.Entries.{AreEntries};
+    ghost use Rattle.symbol_table.specs.inside.Entries.{AreRecognised};
 
     ghost Value = { FileOf };
 
     ghost view = { λ p. p.fields };
 
-    ghost invariant = { λ p. AreEntries (file_at p.fields.files p.fields.file) p.entries };
+    ghost invariant = { λ p.
+        AreRecognised p.fields.file (file_at p.fields.files p.fields.file) p.places };
 }
 
-impl<'a, 'b> Prologues<'a, 'b> {
-    /// Those of a file of a set.
-    pub fn of_file(alloc: Global, set: &'b ObjectSet<'a>, file: u32) -> Result<Self, AllocError>
-        requires { file < length set.now }
-        ensures { IfOk result (λ p. p ≡ record { files = set.now; file = file }) }
-    {
-        Ok(Prologues {
-            fields: FileFields::of_file(alloc, set, file)?,
-            entries: EntryPlaces::of_file(alloc, set, file)?,
-        })
-    }
-
-    /// The fields of the file's records.
-    pub fn fields(&self) -> &FileFields<'a, 'b>
-        ensures { result.now ≡ self.now }
-    {
-        &self.fields
-    }
-
+impl<'a, 'b> FileFields<'a, 'b> {
     /// Whether a field of the file begins at an offset, and its record is of a kind, against `.TOC.`, with an addend.
     fn is_half(&self, kind: Kind, addend: i64, at: u64, field: RecordField) -> bool
         requires { IsFieldOf self.now.files self.now.file field }
         ensures { let b = file_at self.now.files self.now.file in
             result ≡ is_half b kind addend at field }
     {
-        is_half(self.fields.set(), field, kind, addend, at)
+        is_half(self.set(), field, kind, addend, at)
     }
 
     /// Whether just two fields have bytes of the two words at an offset of a section, those of a form's halves.
@@ -231,7 +215,7 @@ impl<'a, 'b> Prologues<'a, 'b> {
         ensures { let b = file_at self.now.files self.now.file in
             result ≡ are_halves b form at (fields_meeting self.now.file b section at 8) }
     {
-        match self.fields.only_two(section, at, 8) {
+        match self.only_two(section, at, 8) {
             Some((f, g)) => {
                 let high = self.is_half(form.high, 0, at, f) || self.is_half(form.high, 0, at, g);
                 let low = self.is_half(form.low, form.low_addend, at + 4, f)
@@ -268,24 +252,68 @@ impl<'a, 'b> Prologues<'a, 'b> {
             || self.has_form(PrologueForm::Absolute, section, at, bytes)
     }
 
-    /// Whether a place of a section, of which the bytes are given, has a recognised prologue.
+    /// Whether the place of a function with two entry points lies in a section of the file and has a recognised prologue.
     #[tactic(auto, unfolding(crate::specs::Prologue::has_recognised_prologue))]
-    pub fn is_recognised(&self, section: u32, at: u64, bytes: &[u8]) -> bool
+    fn has_prologue(&self, place: FilePlace) -> bool
+        requires { let b = file_at self.now.files self.now.file in
+            has_two_entries b place.section place.offset ≡ true }
+        ensures { let b = file_at self.now.files self.now.file in
+            result ≡ has_prologue self.now.file b place }
+    {
+        let (set, file) = (self.set(), self.file());
+        // no symbol of a set is refused, so that the words lie in the section
+        let _files = set.file_count();
+        let FilePlace { section, offset } = place;
+        let view = set.view(file);
+        if section >= view.section_count() || !set.sort_of(file, section).is_text() {
+            return false;
+        }
+        self.has_some_form(section, offset, view.section(section).bytes)
+    }
+
+    /// Those of places of functions with two entry points that have a recognised prologue.
+    fn prologues(&self, alloc: Global, entries: &[FilePlace]) -> Result<Vec<FilePlace>, AllocError>
+        requires { AreEntries (file_at self.now.files self.now.file) entries.now }
+        ensures { let b = file_at self.now.files self.now.file in IfOk result (λ places.
+            places.items ≡ filter (has_prologue self.now.file b) entries.now) }
+    {
+        let mut places = Vec::new(alloc);
+        for place in entries {
+            if self.has_prologue(*place) {
+                places.push(*place)?;
+            }
+        }
+        Ok(places)
+    }
+}
+
+impl<'a, 'b> Prologues<'a, 'b> {
+    /// Those of a file of a set.
+    pub fn of_file(alloc: Global, set: &'b ObjectSet<'a>, file: u32) -> Result<Self, AllocError>
+        requires { file < length set.now }
+        ensures { IfOk result (λ p. p ≡ record { files = set.now; file = file }) }
+    {
+        let fields = FileFields::of_file(alloc, set, file)?;
+        let entries = EntryPlaces::of_file(alloc, set, file)?;
+        let places = EntryPlaces {
+            items: fields.prologues(alloc, &entries.items)?,
+        };
+        Ok(Prologues { fields, places })
+    }
+
+    /// The fields of the file's records.
+    pub fn fields(&self) -> &FileFields<'a, 'b>
+        ensures { result.now ≡ self.now }
+    {
+        &self.fields
+    }
+
+    /// Whether a place of a section has a recognised prologue.
+    pub fn is_recognised(&self, section: u32, at: u64) -> bool
         requires section { section < e_shnum (file_at self.now.files self.now.file) }
-        requires bytes { let b = file_at self.now.files self.now.file in
-            bytes.now ≡ section_bytes b section }
         ensures { let b = file_at self.now.files self.now.file in
             result ≡ has_recognised_prologue self.now.file b section at }
     {
-        let (set, file) = (self.fields.set(), self.fields.file());
-        // no symbol of a set is refused, so that the words lie in the section
-        let _files = set.file_count();
-        if !set.sort_of(file, section).is_text() {
-            return false;
-        }
-        if !self.entries.contains(section, at) {
-            return false;
-        }
-        self.has_some_form(section, at, bytes)
+        self.places.contains(section, at)
     }
 }

@@ -135,14 +135,13 @@ impl<'r, 'a, 'b> FileRecords<'r, 'a, 'b> {
     }
 
     /// Whether the word at an offset of a section is one of the two of a recognised prologue.
-    fn is_in_prologue(&self, section: u32, at: u64, bytes: &[u8]) -> bool
-        requires section { section < e_shnum (file_at self.now.files self.now.file) }
-        requires bytes { bytes.now ≡ section_bytes (file_at self.now.files self.now.file) section }
+    fn is_in_prologue(&self, section: u32, at: u64) -> bool
+        requires { section < e_shnum (file_at self.now.files self.now.file) }
         ensures { let b = file_at self.now.files self.now.file in
             result ≡ is_in_prologue self.now.file b section at }
     {
-        self.prologues.is_recognised(section, at, bytes)
-            || (4 <= at && self.prologues.is_recognised(section, at - 4, bytes))
+        self.prologues.is_recognised(section, at)
+            || (4 <= at && self.prologues.is_recognised(section, at - 4))
     }
 
     /// Whether a record asks for what is left out.
@@ -155,9 +154,7 @@ impl<'r, 'a, 'b> FileRecords<'r, 'a, 'b> {
     {
         let rela = self.rela(id);
         match kind {
-            Kind::Rel16Ha | Kind::Rel16Lo => {
-                !self.is_in_prologue(self.section(id), rela.offset, bytes)
-            }
+            Kind::Rel16Ha | Kind::Rel16Lo => { !self.is_in_prologue(self.section(id), rela.offset) }
             Kind::GotPcrel34 => rela.addend != 0,
             _ => rule_of(kind)
                 .words

@@ -14,7 +14,7 @@ use Rattle.object_set.specs.Sections.{is_text, sort_of}
 use Rattle.object_set.specs.Symbols.{name_of, is_local, is_weak, section_index, is_absolute, is_toc_base}
 use Rattle.object_set.specs.Walks.{IsRecord}
 use Rattle.reloc_fields.specs.declared.kind.Kind.{Kind}
-use Rattle.reloc_fields.specs.declared.kind.Kind.TheVariants.{Toc16Ha, Toc16Lo, Toc16LoDs, Addr64}
+use Rattle.reloc_fields.specs.declared.kind.Kind.TheVariants.{Toc16Ha, Toc16Lo, Toc16LoDs, Addr64, Rel16Ha, Rel16Lo}
 use Rattle.reloc_fields.specs.Table.{line_of}
 use Rattle.symbol_table.specs.declared.candidates.Resolution.{Resolution}
 use Rattle.symbol_table.specs.declared.candidates.Resolution.TheVariants as resolution
@@ -24,7 +24,7 @@ use Rattle.symbol_table.specs.declared.target.Target.{Target}
 use Rattle.symbol_table.specs.declared.target.Target.TheVariants as target
 use Rattle.std.specs.Int.{cast_signed, w64}
 use Rattle.symbol_table.specs.Candidates.{stands_for, common_number}
-use Rattle.symbol_table.specs.Records.{looks_at_symbol, records_refusal}
+use Rattle.symbol_table.specs.Records.{looks_at_symbol, is_prologue_kind, is_in_prologue, records_refusal}
 use Rattle.symbol_table.specs.Sites.{rule_of, admits}
 use Rattle.symbol_table.specs.Targets.{plus_addend, section_target, index_target, own_target, named_target, external_target, target_of}
 use Rattle.symbol_table.specs.Text.{text_index}
@@ -35,6 +35,10 @@ use Rattle.toc_rewrite.specs.Records.{facts_of, kind_of, goes}
 use Rattle.toc_rewrite.specs.Folds.{is_address, is_toc_sort}
 use Rattle.toc_rewrite.specs.inside.Laid.{IsTargetOf}
 use Rattle.toc_rewrite.specs.inside.Tables.{is_toc_user}
+
+-- the kinds of a prologue's words fill bytes
+prologue_fills : (kind : Kind) → is_prologue_kind kind ≡ true → 0 < (line_of kind).width
+prologue_fills = elim [ Rel16Ha ↦ λ _. omega arith | Rel16Lo ↦ λ _. omega arith | _ ↦ λ other. cc ]
 
 module _ (files : List (List ℕ)) (r : RecordId) (none : records_refusal files ≡ None) (is : IsRecord files r) where
   -- a record has a kind
@@ -49,6 +53,11 @@ module _ (files : List (List ℕ)) (r : RecordId) (none : records_refusal files 
       let has = sound.kind_is in
       let same : sound.kind ≡ kind = cc in
       subst (λ (k : Kind). 0 < (line_of k).width → IsSoundField files r k) same sound.field fills
+
+  -- a record of one of these kinds is of a recognised prologue
+  pub of_prologue : (kind : Kind) → kind_of files r ≡ Some kind → is_prologue_kind kind ≡ true →
+      is_in_prologue r.file (file_at files r.file) r.section (facts_of files r).offset ≡ true
+  of_prologue kind known of = (sound_field kind known (prologue_fills kind of)).prologue of
 
   -- a relocation that goes somewhere has a target
   pub goes_somewhere : (kind : Kind) → kind_of files r ≡ Some kind → goes kind ≡ true →

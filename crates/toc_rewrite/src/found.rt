@@ -15,12 +15,13 @@ ghost use Rattle.toc_rewrite.specs.inside.Laid.{IsTargetOf, IsFileOf};
 ghost use Rattle.toc_rewrite.specs.inside.Uses.{use_of};
 ghost use Rattle.toc_rewrite.specs.inside.Slots.{is_candidate, candidate_of, HasFound, HasAll};
 
+use crate::asked::AskedPrologues;
 use crate::laid::{CODE_REACH, Laid};
 use crate::uses::SlotUse;
 use object_set::{RecordId, Sort};
 use reloc_fields::Kind;
 use std::alloc::{AllocError, Global};
-use symbol_table::{Prologues, Target};
+use symbol_table::Target;
 
 /// A slot of the table of contents.
 #[derive(Clone, Copy)]
@@ -109,18 +110,20 @@ impl<'l, 'a, 'b> Laid<'l, 'a, 'b> {
     /// Puts the use that a record makes of a number behind others.
     fn push_use(
         &self,
+        alloc: Global,
         uses: &mut Vec<SlotUse>,
-        prologues: &Prologues,
+        prologues: &mut AskedPrologues,
         id: RecordId,
         bytes: &[u8],
     ) -> Result<(), AllocError>
         requires record { IsRecord self.now.files id }
-        requires prologues { IsFileOf prologues.now self.now.files id.file }
+        requires prologues { IsFileOf prologues.old self.now.files id.file }
         requires bytes { bytes.now ≡ section_bytes (file_at self.now.files id.file) id.section }
-        ensures { OnOk result (uses.new.items ≡ uses.old.items ++ use_of self.now id) }
+        ensures uses { OnOk result (uses.new.items ≡ uses.old.items ++ use_of self.now id) }
+        ensures same { prologues.new ≡ prologues.old }
     {
         if let Some(number) = self.number(id) {
-            if !self.is_of_prologue(prologues, id, bytes) {
+            if !self.is_of_prologue(alloc, prologues, id)? {
                 let loader = if self.loads_only(id, bytes) {
                     Some(id.file)
                 } else {
@@ -147,34 +150,38 @@ impl<'l, 'a, 'b> Laid<'l, 'a, 'b> {
     /// Puts what a record is found to be behind others.
     fn push_record(
         &self,
+        alloc: Global,
         found: &mut Found,
-        prologues: &Prologues,
+        prologues: &mut AskedPrologues,
         id: RecordId,
         bytes: &[u8],
     ) -> Result<(), AllocError>
         requires record { IsRecord self.now.files id }
-        requires prologues { IsFileOf prologues.now self.now.files id.file }
+        requires prologues { IsFileOf prologues.old self.now.files id.file }
         requires bytes { bytes.now ≡ section_bytes (file_at self.now.files id.file) id.section }
-        ensures { OnOk result (HasFound self.now (id ∷ []) found.old found.new) }
+        ensures found { OnOk result (HasFound self.now (id ∷ []) found.old found.new) }
+        ensures same { prologues.new ≡ prologues.old }
     {
-        self.push_use(&mut found.uses, prologues, id, bytes)?;
+        self.push_use(alloc, &mut found.uses, prologues, id, bytes)?;
         self.push_slot(&mut found.slots, id, bytes)
     }
 
     /// Puts what the records that a section holds are found to be behind others.
     fn push_table(
         &self,
+        alloc: Global,
         found: &mut Found,
-        prologues: &Prologues,
+        prologues: &mut AskedPrologues,
         file: u32,
         table: u32,
     ) -> Result<(), AllocError>
         requires file { file < length self.now.files }
         requires table { table < e_shnum (file_at self.now.files file) }
-        requires prologues { IsFileOf prologues.now self.now.files file }
-        ensures { let b = file_at self.now.files file in
+        requires prologues { IsFileOf prologues.old self.now.files file }
+        ensures found { let b = file_at self.now.files file in
             let records = records_in file b table (record_count b table) in
             OnOk result (HasFound self.now records found.old found.new) }
+        ensures same { prologues.new ≡ prologues.old }
     {
         let view = self.resolved().set().view(file);
         let count = view.record_count(table);
@@ -189,7 +196,7 @@ impl<'l, 'a, 'b> Laid<'l, 'a, 'b> {
         };
         let bytes = view.section(self.section(first)).bytes;
         for entry in 0..count {
-            self.push_record(found, prologues, RecordId { entry, ..first }, bytes)?;
+            self.push_record(alloc, found, prologues, RecordId { entry, ..first }, bytes)?;
         }
         Ok(())
     }
@@ -202,9 +209,9 @@ impl<'l, 'a, 'b> Laid<'l, 'a, 'b> {
             OnOk result (HasFound self.now records found.old found.new) }
     {
         let set = self.resolved().set();
-        let prologues = Prologues::of_file(alloc, set, file)?;
+        let mut prologues = AskedPrologues::of_file(set, file);
         for table in 0..set.view(file).section_count() {
-            self.push_table(found, &prologues, file, table)?;
+            self.push_table(alloc, found, &mut prologues, file, table)?;
         }
         Ok(())
     }

@@ -2,6 +2,7 @@
 // the address that the slot holds, and which words the rewriting gives.
 #![tactic(auto)]
 
+mod asked;
 mod folds;
 mod found;
 mod laid;

@@ -1,30 +1,40 @@
 // What relocation records say of the files whose data has addresses.
-ghost use Rattle.std.specs.Prelude.{◌≡◌, ◌<◌, ◌≤◌, ◌+◌, Some, IfSome, true, not};
+ghost use Rattle.std.specs.Prelude.{◌≡◌, ◌<◌, ◌≤◌, ◌+◌, Some, IfSome, IfOk, true, not};
 ghost use Rattle.elf64_records.specs.Records.{rela_of};
 ghost use Rattle.elf64_records.specs.Sections.{section_bytes};
 ghost use Rattle.elf64_records.specs.Symbols.{symbol_count};
 ghost use Rattle.object_set.specs.Files.{file_at};
 ghost use Rattle.object_set.specs.Walks.{IsRecord};
 ghost use Rattle.symbol_table.specs.Fields.{kind_numbered};
+ghost use Rattle.symbol_table.specs.Records.{is_prologue_kind};
 ghost use Rattle.symbol_table.specs.laws.Sections.{IsAbout};
 ghost use Rattle.toc_rewrite.specs.Records.{facts_of, kind_of, word_at, goes, record_target, record_number, is_of_prologue};
 ghost use Rattle.toc_rewrite.specs.Folds.{is_unsuited, loads_only};
 ghost use Rattle.toc_rewrite.specs.inside.Laid.{IsTargetOf, IsFileOf};
 ghost use Rattle.toc_rewrite.specs.inside.Tables.{is_toc_user};
 
+use crate::asked::AskedPrologues;
 use crate::laid::Laid;
 use crate::words::{only_loads, suits};
 use elf64_records::Rela;
 use object_set::RecordId;
 use ppc_bytes::word_at;
 use reloc_fields::{Kind, width};
-use symbol_table::{Prologues, Target, kind_numbered};
+use std::alloc::{AllocError, Global};
+use symbol_table::{Target, kind_numbered};
 
 /// Whether a relocation of a kind goes somewhere.
 fn goes(kind: Kind) -> bool
     ensures { result ≡ goes kind }
 {
     width(kind) != 0 && !matches!(kind, Kind::Toc)
+}
+
+/// Whether relocations of a kind stand in recognised prologues alone.
+fn is_prologue_kind(kind: Kind) -> bool
+    ensures { result ≡ is_prologue_kind kind }
+{
+    matches!(kind, Kind::Rel16Ha | Kind::Rel16Lo)
 }
 
 impl<'l, 'a, 'b> Laid<'l, 'a, 'b> {
@@ -135,20 +145,33 @@ impl<'l, 'a, 'b> Laid<'l, 'a, 'b> {
         }
     }
 
-    /// Whether a record is one of the two of a recognised prologue, where the prologues of its file and the bytes of its section are
-    /// given.
-    pub fn is_of_prologue(&self, prologues: &Prologues, id: RecordId, bytes: &[u8]) -> bool
+    /// Whether a record is one of the two of a recognised prologue, where its file can be asked for its prologues.
+    pub fn is_of_prologue(
+        &self,
+        alloc: Global,
+        prologues: &mut AskedPrologues,
+        id: RecordId,
+    ) -> Result<bool, AllocError>
         requires record { IsRecord self.now.files id }
-        requires prologues { IsFileOf prologues.now self.now.files id.file }
-        requires bytes { bytes.now ≡ section_bytes (file_at self.now.files id.file) id.section }
-        ensures { result ≡ is_of_prologue self.now.files id }
+        requires prologues { IsFileOf prologues.old self.now.files id.file }
+        ensures is { IfOk result (λ is. is ≡ is_of_prologue self.now.files id) }
+        ensures same { prologues.new ≡ prologues.old }
     {
         let rela = self.facts(id);
         if !self.resolved().set().is_toc_base(id.file, rela.symbol) {
-            return false;
+            return Ok(false);
+        }
+        // elsewhere a record of these kinds is refused
+        if is_prologue_kind(self.kind(id)) {
+            return Ok(true);
         }
         let section = self.section(id);
-        prologues.is_recognised(section, rela.offset, bytes)
-            || (4 <= rela.offset && prologues.is_recognised(section, rela.offset - 4, bytes))
+        if prologues.is_recognised(alloc, section, rela.offset)? {
+            return Ok(true);
+        }
+        if rela.offset < 4 {
+            return Ok(false);
+        }
+        prologues.is_recognised(alloc, section, rela.offset - 4)
     }
 }

@@ -1,6 +1,6 @@
 -- The fields of a file while they are looked up.
-use Rattle.std.specs.Prelude.{◌≡◌, ◌≢◌, ◌<◌, ◌≤◌, ℕ, Bool, ◌||◌, List, [], ◌∷◌, length, None, Some, Option}
-use Rattle.std.specs.List.{list_any}
+use Rattle.std.specs.Prelude.{◌≡◌, ◌≢◌, ◌<◌, ◌≤◌, ◌+◌, ◌⊎◌, ℕ, Bool, ◌||◌, List, [], ◌∷◌, IsTrue, length, None, Some, Option}
+use Rattle.std.specs.List.{list_any, AllAdjacentBelow}
 use Rattle.std.specs.List.Sorted.{IsPermutation, IsNonDecreasingBy}
 use Rattle.object_set.specs.Files.{file_at}
 use Rattle.object_set.specs.Walks.{IsRecord}
@@ -32,6 +32,19 @@ pub record AreFileFields (files : List (List ℕ)) (file : ℕ) (items : List Re
   pub file_in : file < length files
   pub same : IsPermutation (fields_of file (file_at files file)) items
   pub sorted : IsNonDecreasingBy rank_of items
+
+-- a field lies in an earlier section than another one, or ends where that one begins or before
+abbrev pub EndsBefore : RecordField → RecordField → Type 0
+EndsBefore f g = (f.id.section < g.id.section) ⊎ ((f.id.section ≡ g.id.section) × (f.start + f.width ≤ g.start))
+
+-- each field ends before the next one
+abbrev pub AreApart : List RecordField → Type 0
+AreApart fields = AllAdjacentBelow EndsBefore fields (length fields)
+
+-- fields of a file, with what is known of how they lie
+pub record AreKeptFields (files : List (List ℕ)) (file : ℕ) (items : List RecordField) (apart : Bool) : Type 0 where
+  pub fields : AreFileFields files file items
+  pub apart_is : IsTrue apart → AreApart items
 
 -- the two fields, where there are two
 abbrev pub AreTwo : List RecordField → Option (RecordField × RecordField) → Type 0

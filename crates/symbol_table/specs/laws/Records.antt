@@ -192,7 +192,7 @@ entry_passes test file b i k (suc n) within passes =
           all ∙ ap (λ (x : Bool). list_any test (records_in file b i n) || x) last ∙ or_true (list_any test (records_in file b i n)))
     ]
 
-record_passes : (test : RecordId → Bool) (file : ℕ) (b : List ℕ) (i k n : ℕ) → i < n → k < record_count b i →
+pub record_passes : (test : RecordId → Bool) (file : ℕ) (b : List ℕ) (i k n : ℕ) → i < n → k < record_count b i →
     test (record_id file b i k) ≡ true → list_any test (items_in record_walk file b n) ≡ true
 record_passes test file b i k zero table within passes = absurd (omega arith)
 record_passes test file b i k (suc n) table within passes =
@@ -208,7 +208,7 @@ record_passes test file b i k (suc n) table within passes =
           all ∙ ap (λ (x : Bool). list_any test before || x) last ∙ or_true (list_any test before))
     ]
 
-any_mapped : (test : RecordField → Bool) (f : RecordId → RecordField) (rs : List RecordId) →
+pub any_mapped : (test : RecordField → Bool) (f : RecordId → RecordField) (rs : List RecordId) →
     list_any test (map f rs) ≡ list_any (λ r. test (f r)) rs
 any_mapped test f [] = refl
 any_mapped test f (r ∷ rs) = ap (λ (x : Bool). test (f r) || x) (any_mapped test f rs)

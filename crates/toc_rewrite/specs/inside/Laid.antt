@@ -1,5 +1,5 @@
 -- Files whose data has addresses, while they are read.
-use Rattle.std.specs.Prelude.{◌≡◌, ℕ, ◌<◌, ◌≤◌, ◌^◌, List, length, map, None, slice_index}
+use Rattle.std.specs.Prelude.{◌≡◌, ℕ, ◌<◌, ◌≤◌, ◌^◌, List, length, map, Option, None, IfSome, slice_index}
 use Rattle.std.specs.List.{range_with_len}
 use Rattle.object_set.specs.Walks.{section_walk, index_of, all_items}
 use Rattle.symbol_table.specs.declared.target.Piece.{Piece}
@@ -39,3 +39,8 @@ IsTargetOf files (WeakNone addend) = Unit {0}
 pub record IsFileOf (of : FileOf) (files : List (List ℕ)) (file : ℕ) : Type 0 where
   pub files_are : of.files ≡ files
   pub file_is : of.file ≡ file
+
+-- where prologues are found they are those of a file of these files
+pub record AreAsked (files : List (List ℕ)) (file : ℕ) (found : Option FileOf) : Type 0 where
+  pub file_in : file < length files
+  pub found_are : IfSome found (λ p. p ≡ record { files = files; file = file })

@@ -9,6 +9,6 @@ returns c =
     let first = c.count_before.result in
     let rest = take (length fields - first) (drop first fields) in
     window_holds c.args.section c.args.from c.args.count c.saturating_sub.result (c.args.from + c.from.result) fields rest first
-    c.count_before-2.result c.requires.narrow c.count_before.ensures.before c.saturating_sub.ensures
-    (rest_is fields first) c.count_before-2.ensures.after
+    c.walk_before.result c.requires.narrow c.count_before.ensures.before c.saturating_sub.ensures
+    (rest_is fields first) c.walk_before.ensures.after
     (ap (λ (n : ℕ). c.args.from + n) c.from.ensures)

@@ -9,7 +9,7 @@ use Rattle.symbol_table.proofs.fields.FileFields.has_any.Goals as goal
 -- no field of the file has more than eight bytes
 pub window-requires-clause-narrow : goal.window-requires-clause-narrow
 window-requires-clause-narrow c =
-    items_narrow c.self.inside.set.now c.self.inside.file c.self.inside.items.items c.deref.result.now c.self.invariant
+    items_narrow c.self.inside.set.now c.self.inside.file c.self.inside.items.items c.deref.result.now c.self.invariant.fields
     c.deref.ensures.value
 
 -- what one of the window passes one of the file's passes
@@ -21,4 +21,4 @@ returns c =
     let m = meets c.args.section c.args.from c.args.count in
     let holds = c.window.ensures ∙ ap (filter m) c.deref.ensures.value in
     subst (λ (f : FileOf). c.any_meets.result ≡ list_any m (fields_of f.file (file_at f.files f.file))) c.self.view_is
-    (c.any_meets.ensures ∙ any_found m (fields_of file (file_at set file)) items c.window.result.now holds c.self.invariant.same)
+    (c.any_meets.ensures ∙ any_found m (fields_of file (file_at set file)) items c.window.result.now holds c.self.invariant.fields.same)

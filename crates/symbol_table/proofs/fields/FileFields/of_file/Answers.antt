@@ -7,6 +7,7 @@ use Rattle.object_set.specs.Files.{file_at}
 use Rattle.object_set.specs.Walks.{items_in, record_walk, records_in}
 use Rattle.symbol_table.specs.declared.fields.RecordField.{RecordField}
 use Rattle.symbol_table.specs.Fields.{field_of}
+use Rattle.symbol_table.specs.inside.Fields.{AreApart}
 use Rattle.symbol_table.proofs.fields.FileFields.of_file.Goals as goal
 
 -- the fields of one section's records more
@@ -29,7 +30,10 @@ invariant_of-result c =
     let all : c.loop-table.table ≡ e_shnum b = omega (arith, count) in
     let items = c.loop-table.invariant ∙ ap (λ (n : ℕ). map (field_of b) (items_in record_walk file b n)) all in
     record {
-      file_in = c.requires;
-      same = subst (λ (l : List RecordField). IsPermutation l c.sort_fields.new.fields.items) items c.sort_fields.ensures.same;
-      sorted = c.sort_fields.ensures.sorted;
+      fields = record {
+        file_in = c.requires;
+        same = subst (λ (l : List RecordField). IsPermutation l c.sort_fields.new.fields.items) items c.sort_fields.ensures.same;
+        sorted = c.sort_fields.ensures.sorted;
+      };
+      apart_is = λ apart. subst AreApart c.deref.ensures.value (c.are_apart-apart.ensures apart);
     }

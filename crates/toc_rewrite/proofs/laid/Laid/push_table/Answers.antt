@@ -14,5 +14,8 @@ loop-entry-preserved c =
     let is = record_read c.args.self.now.files c.set.result.now c.view-view.result.now file table entry section
     (c.set.ensures ∙ c.resolved.ensures.files) c.view-view.ensures c.section_header.ensures.info in
     let r : RecordId = record { file = file; table = table; entry = entry; section = section } in
-    entry_found c.args.self.now file table entry r c.args.found.now c.loop-entry.found c.push_record.new.found is c.loop-entry.invariant
-    c.in_ok-push_record.ensures
+    record {
+      found = entry_found c.args.self.now file table entry r c.args.found.now c.loop-entry.found c.push_record.new.found is
+          c.loop-entry.invariant.found c.in_ok-push_record.ensures.found;
+      same = c.in_ok-push_record.ensures.same ∙ c.loop-entry.invariant.same;
+    }
