@@ -1,21 +1,22 @@
--- The segment that an access meets.
-use Rattle.std.proofs.Common.{◌≡◌, ℕ, zero, suc, ◌+◌, ◌-◌, ◌<◌, ◌≤◌, Bool, true, false, ◌&&◌, ◌||◌, not, List, [], ◌∷◌, length, map, take, drop, get_or, Option, Some, None, refl, sym, ap, ◌∙◌, subst, arith, add-one, add-zero, add_assoc, add_comm, cond, ⊎_elim}
+-- The region that an access meets.
+use Rattle.std.proofs.Common.{◌≡◌, ℕ, zero, suc, ◌+◌, ◌-◌, ◌*◌, ◌<◌, ◌≤◌, Bool, true, false, ◌&&◌, ◌||◌, not, List, [], ◌∷◌, length, map, get_or, Option, Some, None, refl, sym, ap, ◌∙◌, subst, arith, cond, ⊎_elim}
 use Rattle.std.specs.Prelude.{is_some, nat_le, nat_lt, slice_set}
 use Rattle.std.specs.List.{list_any, position, position_or_len}
 use Rattle.std.proofs.lemmas.List.Quantifiers.{position-Some}
-use Rattle.std.proofs.lemmas.List.{places, get_or_default}
+use Rattle.std.proofs.lemmas.List.{get_or_default, set-get_or}
 use Rattle.std.proofs.lemmas.Bool.{cases_lt}
 use Rattle.std.proofs.lemmas.Bool.Decides.{nat_tests}
-use Rattle.std.proofs.Math.Seq.{drop-cons}
 use Rattle.power_machine.specs.declared.memory.Region.{Region}
 use Rattle.std.proofs.Math.ListN.{get_or-map}
 use Rattle.std.proofs.Math.Seq.{map-set_same}
 use Rattle.std.proofs.lemmas.List.{length-map}
 use Rattle.power_machine.specs.declared.memory.Purpose.{Purpose}
 use Rattle.power_machine.specs.declared.memory.Purpose.TheVariants.{Storing}
-use Rattle.power_machine.specs.Memory.{Range, stop_of, range_of, ranges_of, holds, allows, byte_at, bytes_from, put}
-use Rattle.power_machine.specs.inside.Regions.{BeginBy, InOrder, IsPlace, place_of}
-use Rattle.power_machine.specs.Bytes.{over}
+use Rattle.power_machine.specs.Memory.{Range, stop_of, range_of, ranges_of, holds, allows, covers, base_of, byte_of, byte_at, bytes_from, put, keeps}
+use Rattle.power_machine.specs.Paging.{page_of, span_at, meets, kept_with, byte_in}
+use Rattle.power_machine.specs.inside.Paged.{kept_in}
+use Rattle.power_machine.specs.inside.Regions.{BeginBy, InOrder, IsPlace, Puts, place_of}
+use Rattle.power_machine.proofs.Lists.{same_bytes, put_shifted}
 
 holds_parts : (purpose : Purpose) (at count : ℕ) (r : Range) → holds purpose at count r ≡ true → (r.start ≤ at) × (at + count ≤ r.stop)
 holds_parts purpose at count r h = grind (arith, nat_tests)
@@ -36,6 +37,7 @@ place_found purpose at count regions index order h =
       starts = λ d. (holds_parts purpose at count _ (position-Some _ regions index d h).1).0;
       ends = λ d. (holds_parts purpose at count _ (position-Some _ regions index d h).1).1;
       low = λ d. order.low index d inside;
+      paged = λ d. order.paged index d inside;
     }
 
 any_map : {X Y : Type 0} (f : X → Y) (p : Y → Bool) (xs : List X) → list_any p (map f xs) ≡ list_any (λ x. p (f x)) xs
@@ -162,7 +164,7 @@ none_begun purpose at count regions d (Some k) h order some begun =
 -- none begins at or below
 -- some region, where one is wanted and which is all the same
 abbrev pub some_region : Region
-some_region = record { start = 0; writable = true; executable = true; bytes = [] }
+some_region = record { start = 0; size = 0; writable = true; executable = true; pages = [] }
 
 pub no_place :
     (purpose : Purpose) (at count : ℕ) (regions : List Region) (d : Region) →
@@ -184,83 +186,135 @@ tail_order : (s : Region) (regions : List Region) → InOrder (s ∷ regions) �
 tail_order s regions order = record {
   low = λ i d h. order.low (suc i) d (omega arith);
   apart = λ i j d h k. order.apart (suc i) (suc j) d (omega arith) (omega arith);
+  paged = λ i d h. order.paged (suc i) d (omega arith);
 }
 
--- the byte at an address that the segment covers
-pub byte_in :
+-- the byte at an address that the region covers
+pub byte_there :
     (regions : List Region) (i a : ℕ) (d : Region) →
     InOrder regions →
     i < length regions →
     (get_or regions i d).start ≤ a →
     a < stop_of (get_or regions i d) →
-    byte_at regions a ≡ get_or (get_or regions i d).bytes (a - (get_or regions i d).start) 0
-byte_in [] i a d order h from to = absurd (omega arith)
-byte_in (s ∷ regions) zero a d order h from to = grind (arith, nat_tests)
-byte_in (s ∷ regions) (suc i) a d order h from to =
+    byte_at regions a ≡ byte_of (get_or regions i d) a
+byte_there [] i a d order h from to = absurd (omega arith)
+byte_there (s ∷ regions) zero a d order h from to = grind (arith, nat_tests)
+byte_there (s ∷ regions) (suc i) a d order h from to =
     let before : stop_of s ≤ (get_or regions i d).start = order.apart 0 (suc i) d (omega arith) h in
-    let rest = byte_in regions i a d (tail_order s regions order) (omega arith) from to in
+    let rest = byte_there regions i a d (tail_order s regions order) (omega arith) from to in
     grind (arith, nat_tests)
 
--- so many bytes of a list from a place on
-front_is : (xs : List ℕ) (from n : ℕ) → from + n ≤ length xs → take n (drop from xs) ≡ bytes_from (λ k. get_or xs k 0) from n
-front_is xs from zero h = refl
-front_is xs from (suc n) h =
-    let e = drop-cons xs from 0 (omega arith) in
-    ap (take (suc n)) e ∙ ap (λ ys. get_or xs from 0 ∷ ys) (rw (← add-one) (front_is xs (from + 1) n (omega arith)))
-
-pub same_bytes : {B : Type 0} (f g : ℕ → B) (a b n : ℕ) → ((k : ℕ) → k < n → f (a + k) ≡ g (b + k)) → bytes_from f a n ≡ bytes_from g b n
-same_bytes f g a b zero h = refl
-same_bytes f g a b (suc n) h =
-    let first : f a ≡ g b = simp add-zero at (h 0 (omega arith)) in
-    let rest : (k : ℕ) → k < n → f (a + 1 + k) ≡ g (b + 1 + k) = λ k l. rw (add_assoc, add_assoc, add_comm 1 k) (h (k + 1) (omega arith)) in
-    ap (λ x. x ∷ bytes_from f (a + 1) n) first ∙ ap (λ xs. g b ∷ xs) (same_bytes f g (a + 1) (b + 1) n rest)
-
 -- the bytes that a place has
-pub bytes_in :
+pub bytes_there :
     (purpose : Purpose) (regions : List Region) (i at n : ℕ) (d : Region) →
     InOrder regions →
     IsPlace purpose at n regions i →
-    take n (drop (at - (get_or regions i d).start) (get_or regions i d).bytes) ≡ bytes_from (byte_at regions) at n
-bytes_in purpose regions i at n d order place =
+    bytes_from (byte_in (get_or regions i d).pages) (at - base_of (get_or regions i d).start) n ≡ bytes_from (byte_at regions) at n
+bytes_there purpose regions i at n d order place =
     let from = place.starts d in
     let to = place.ends d in
-    front_is (get_or regions i d).bytes (at - (get_or regions i d).start) n (omega arith)
-    ∙ same_bytes _ _ _ _ n (λ k l.
-    let e : at + k - (get_or regions i d).start ≡ at - (get_or regions i d).start + k = omega arith in
-    sym (byte_in regions i (at + k) d order place.within (omega arith) (omega arith) ∙ ap (λ m. get_or (get_or regions i d).bytes m 0) e))
+    let r = get_or regions i d in
+    same_bytes _ _ _ _ n (λ k l.
+    let e : at - base_of r.start + k ≡ at + k - base_of r.start = omega arith in
+    ap (byte_in r.pages) e ∙ sym (byte_there regions i (at + k) d order place.within (omega arith) (omega arith)))
 
--- an element of a list with others from a place on
-get_over :
-    (old : List ℕ) (from : ℕ) (bytes : List ℕ) (k d : ℕ) →
-    from + length bytes ≤ length old →
-    get_or (over old from bytes) k 0 ≡ cond (nat_le from k && nat_lt k (from + length bytes))
-    (get_or bytes (k - from) d) (get_or old k 0)
-get_over old from bytes k d h = grind (arith, nat_tests, places)
+-- a region whose pages have other bytes
+abbrev pub with_pages : Region → List (List ℕ) → Region
+with_pages s pages = record { start = s.start; size = s.size; writable = s.writable; executable = s.executable; pages = pages }
 
-length_over : (old : List ℕ) (from : ℕ) (bytes : List ℕ) → from + length bytes ≤ length old → length (over old from bytes) ≡ length old
-length_over old from bytes h = grind (arith, nat_tests, places)
+-- bytes put into a region's pages are put at their addresses
+put_there :
+    (s : Region) (pages : List (List ℕ)) (at : ℕ) (bytes : List ℕ) (a : ℕ) →
+    s.start ≤ at →
+    s.start ≤ a →
+    byte_in pages ≡ put (byte_in s.pages) (at - base_of s.start) bytes →
+    byte_of (with_pages s pages) a ≡ put (byte_of s) at bytes a
+put_there s pages at bytes a from le e =
+    put_shifted (byte_in pages) (byte_in s.pages) (byte_of s) (base_of s.start) at a bytes (omega arith) (omega arith)
+    (λ k. ap (λ (f : ℕ → ℕ). f k) e) refl
+
+covered :
+    (s : Region) (pages : List (List ℕ)) (regions : List Region) (at : ℕ) (bytes : List ℕ) (a : ℕ) →
+    s.start ≤ at →
+    at + length bytes ≤ stop_of s →
+    (s.start ≤ a → byte_of (with_pages s pages) a ≡ put (byte_of s) at bytes a) →
+    byte_at (with_pages s pages ∷ regions) a ≡ put (byte_at (s ∷ regions)) at bytes a
+covered s pages regions at bytes a from to there =
+    ⊎_elim (λ less. grind (arith, nat_tests)) (λ le. let e = there le in grind (arith, nat_tests)) (cases_lt a s.start)
+
+passed :
+    (t : Region) (regions : List Region) (at : ℕ) (bytes : List ℕ) (a now : ℕ) →
+    stop_of t ≤ at →
+    now ≡ put (byte_at regions) at bytes a →
+    cond (covers t a) (byte_of t a) now ≡ put (byte_at (t ∷ regions)) at bytes a
+passed t regions at bytes a now before e = grind (arith, nat_tests)
+
+kept_tests :
+    (first start at n page : ℕ) (b : Bool) →
+    first * 0x1000 ≤ start →
+    start ≤ at →
+    (nat_le first page && (b || meets (span_at (at - first * 0x1000) n) (page - first))) ≡ (nat_le first page && b || meets
+    (span_at at n) page)
+kept_tests first start at n page b low from =
+    ⊎_elim (λ less. grind (arith, nat_tests)) (λ le. grind (arith, nat_tests)) (cases_lt page first)
+
+or_swap : (x m y : Bool) → ((x || m) || y) ≡ ((x || y) || m)
+or_swap true m y = refl
+or_swap false true true = refl
+or_swap false true false = refl
+or_swap false false true = refl
+or_swap false false false = refl
+
+or_assoc : (x y m : Bool) → (x || (y || m)) ≡ ((x || y) || m)
+or_assoc true y m = refl
+or_assoc false y m = refl
 
 -- the bytes after a store
 pub stored_in :
-    (regions : List Region) (i at : ℕ) (bytes : List ℕ) (s' d : Region) →
+    (regions : List Region) (i at : ℕ) (bytes : List ℕ) (pages : List (List ℕ)) (s d : Region) →
     InOrder regions →
     i < length regions →
-    (get_or regions i d).start ≤ at →
-    at + length bytes ≤ stop_of (get_or regions i d) →
-    s'.start ≡ (get_or regions i d).start →
-    s'.bytes ≡ over (get_or regions i d).bytes (at - (get_or regions i d).start) bytes →
+    s ≡ get_or regions i d →
+    s.start ≤ at →
+    at + length bytes ≤ stop_of s →
+    byte_in pages ≡ put (byte_in s.pages) (at - base_of s.start) bytes →
     (a : ℕ) →
-    byte_at (slice_set regions i s') a ≡ put (byte_at regions) at bytes a
-stored_in [] i at bytes s' d order h from to e f a = absurd (omega arith)
-stored_in (s ∷ regions) zero at bytes s' d order h from to e f a =
-    let fits : at - s.start + length bytes ≤ length s.bytes = omega arith in
-    let same : length s'.bytes ≡ length s.bytes = ap length f ∙ length_over s.bytes (at - s.start) bytes fits in
-    let got = ap (λ xs. get_or xs (a - s.start) 0) f ∙ get_over s.bytes (at - s.start) bytes (a - s.start) (byte_at (s ∷ regions) a) fits in
-    grind (arith, nat_tests)
-stored_in (s ∷ regions) (suc i) at bytes s' d order h from to e f a =
-    let before : stop_of s ≤ (get_or regions i d).start = order.apart 0 (suc i) d (omega arith) h in
-    let rest = stored_in regions i at bytes s' d (tail_order s regions order) (omega arith) from to e f a in
-    grind (arith, nat_tests)
+    byte_at (slice_set regions i (with_pages s pages)) a ≡ put (byte_at regions) at bytes a
+stored_in [] i at bytes pages s d order h is from to e a = absurd (omega arith)
+stored_in (t ∷ regions) zero at bytes pages s d order h is from to e a =
+    let there : (s.start ≤ a) → byte_of (with_pages s pages) a ≡ put
+    (byte_of s) at bytes a = λ le. put_there s pages at bytes a from le e in
+    subst (λ u. byte_at (with_pages s pages ∷ regions) a ≡ put (byte_at (u ∷ regions)) at bytes a) is
+    (covered s pages regions at bytes a from to there)
+stored_in (t ∷ regions) (suc i) at bytes pages s d order h is from to e a =
+    let start : s.start ≡ (get_or regions i d).start = ap (λ (r : Region). r.start) is in
+    let before : stop_of t ≤ (get_or regions i d).start = order.apart 0 (suc i) d (omega arith) h in
+    let rest = stored_in regions i at bytes pages s d (tail_order t regions order) (omega arith) is from to e a in
+    passed t regions at bytes a (byte_at (slice_set regions i (with_pages s pages)) a) (omega (arith, start, before, from)) rest
+
+-- the pages that are kept after it
+kept_there :
+    (s : Region) (pages : List (List ℕ)) (at n page : ℕ) →
+    s.start ≤ at →
+    kept_in pages ≡ kept_with (kept_in s.pages) (Some (span_at (at - base_of s.start) n)) →
+    keeps page (with_pages s pages) ≡ (keeps page s || meets (span_at at n) page)
+kept_there s pages at n page from e =
+    let now : kept_in pages (page - page_of s.start) ≡ (kept_in s.pages (page - page_of s.start)
+    || meets (span_at (at - base_of s.start) n) (page - page_of s.start)) = ap (λ (f : ℕ → Bool). f (page - page_of s.start)) e in
+    ap (λ b. nat_le (page_of s.start) page && b) now
+    ∙ kept_tests (page_of s.start) s.start at n page (kept_in s.pages (page - page_of s.start)) (omega arith) from
+
+any_set :
+    {X : Type 0} (p : X → Bool) (xs : List X) (i : ℕ) (x y d : X) (m : Bool) →
+    i < length xs →
+    x ≡ get_or xs i d →
+    p y ≡ (p x || m) →
+    list_any p (slice_set xs i y) ≡ (list_any p xs || m)
+any_set p [] i x y d m h is e = absurd (omega arith)
+any_set p (z ∷ xs) zero x y d m h is e =
+    ap (λ b. b || list_any p xs) (e ∙ ap (λ z. p z || m) is) ∙ or_swap (p z) m (list_any p xs)
+any_set p (z ∷ xs) (suc i) x y d m h is e =
+    ap (λ b. p z || b) (any_set p xs i x y d m (omega arith) is e) ∙ or_assoc (p z) (list_any p xs) m
 
 -- what the ranges say of a look-up
 pub allowed_is :
@@ -292,7 +346,7 @@ fewer :
     IsPlace purpose at room regions i →
     IsPlace purpose at count regions i
 fewer purpose regions at room count i le place =
-    record { within = place.within; starts = place.starts; ends = λ d. omega (arith, place.ends d); low = place.low }
+    record { within = place.within; starts = place.starts; ends = λ d. omega (arith, place.ends d); low = place.low; paged = place.paged }
 
 pub read_some :
     {A : Type 0} (f : List ℕ → A) (purpose : Purpose) (regions xs : List Region) (at room count : ℕ) (o : Option ℕ)
@@ -304,12 +358,12 @@ pub read_some :
     IsPlace purpose at room xs i →
     s ≡ get_or regions i s →
     count ≤ room →
-    v ≡ f (take count (drop (at - s.start) s.bytes)) →
+    v ≡ f (bytes_from (byte_in s.pages) (at - base_of s.start) count) →
     Some v ≡ read_by f purpose regions at room count
 read_some f purpose regions xs at room count o i v s order same some e place item le read =
     let place' : IsPlace purpose at room regions i = subst (λ ys. IsPlace purpose at room ys i) same place in
-    ap Some (read ∙ ap (λ (t : Region). f (take count (drop (at - t.start) t.bytes))) item
-    ∙ ap f (bytes_in purpose regions i at count s order (fewer purpose regions at room count i le place')))
+    ap Some (read ∙ ap (λ (t : Region). f (bytes_from (byte_in t.pages) (at - base_of t.start) count)) item
+    ∙ ap f (bytes_there purpose regions i at count s order (fewer purpose regions at room count i le place')))
     ∙ ap (λ b. cond b (Some (f (bytes_from (byte_at regions) at count))) None)
     (allowed_is purpose regions xs at room o (Some i) same some e)
 
@@ -321,61 +375,76 @@ pub ranges_set :
     ranges_of (slice_set regions i s') ≡ ranges_of regions
 ranges_set regions i s s' item same = map-set_same range_of regions i s' s (same ∙ ap range_of item)
 
-pub order_kept : (xs ys : List Region) → ranges_of xs ≡ ranges_of ys → InOrder ys → InOrder xs
-order_kept xs ys e order =
+-- how many pages regions have
+abbrev pub page_counts : List Region → List ℕ
+page_counts regions = map (λ (r : Region). length r.pages) regions
+
+pub order_kept : (xs ys : List Region) → ranges_of xs ≡ ranges_of ys → page_counts xs ≡ page_counts ys → InOrder ys → InOrder xs
+order_kept xs ys e p order =
     let long : length xs ≡ length ys = sym (length-map xs range_of) ∙ ap length e ∙ length-map ys range_of in
     let at : (i : ℕ) (d : Region) → range_of (get_or xs i d) ≡ range_of (get_or ys i d) = λ i d. sym
     (get_or-map range_of xs i d) ∙ ap (λ l. get_or l i (range_of d)) e ∙ get_or-map range_of ys i d in
+    let count : (i : ℕ) (d : Region) → length (get_or xs i d).pages ≡ length (get_or ys i d).pages = λ i d. sym
+    (get_or-map (λ (r : Region). length r.pages) xs i d) ∙ ap (λ l. get_or l i (length d.pages)) p
+    ∙ get_or-map (λ (r : Region). length r.pages) ys i d in
     record {
       low = λ i d h. let f = ap (λ (r : Range). r.stop) (at i d) in omega (arith, order.low i d (omega arith));
       apart = λ i j d h k.
           let f = ap (λ (r : Range). r.stop) (at i d) in
           let g = ap (λ (r : Range). r.start) (at j d) in
           omega (arith, order.apart i j d h (omega arith));
+      paged = λ i d h.
+          let f = ap (λ (r : Range). r.stop) (at i d) in
+          let g = ap (λ (r : Range). r.start) (at i d) in
+          let n = count i d in
+          omega (arith, f, g, n, order.paged i d (omega arith));
     }
 
--- a region with other bytes
-abbrev pub with_contents : Region → List ℕ → Region
-with_contents s bytes = record { start = s.start; writable = s.writable; executable = s.executable; bytes = bytes }
-
-pub range_over :
-    (s : Region) (bytes' : List ℕ) (from : ℕ) (bytes : List ℕ) →
-    from + length bytes ≤ length s.bytes →
-    bytes' ≡ over s.bytes from bytes →
-    range_of (with_contents s bytes') ≡ range_of s
-range_over s bytes' from bytes h e =
-    ap (λ n. record { start = s.start; stop = s.start + n; writable = s.writable; executable = s.executable })
-    (ap length e ∙ length_over s.bytes from bytes h)
-
 -- a write, from what the calls ensure
-pub record Stored (regions : List Region) (at i : ℕ) (s : Region) (bytes bytes' : List ℕ) : Type 0 where
-  pub ranges : ranges_of (slice_set regions i (with_contents s bytes')) ≡ ranges_of regions
-  pub in_order : InOrder (slice_set regions i (with_contents s bytes'))
-  pub bytes_are : byte_at (slice_set regions i (with_contents s bytes')) ≡ put (byte_at regions) at bytes
+pub record StoredThere (regions : List Region) (at i : ℕ) (s : Region) (bytes : List ℕ) (pages : List (List ℕ)) : Type 0 where
+  pub ranges : ranges_of (slice_set regions i (with_pages s pages)) ≡ ranges_of regions
+  pub in_order : InOrder (slice_set regions i (with_pages s pages))
+  pub puts : Puts regions (slice_set regions i (with_pages s pages)) at bytes
 
 pub stored :
-    (regions xs : List Region) (at room i : ℕ) (s : Region) (bytes bytes' ys : List ℕ) →
+    (regions xs : List Region) (at room from i : ℕ) (s : Region) (bytes : List ℕ) (pages : List (List ℕ)) →
     InOrder regions →
     xs ≡ regions →
     IsPlace Storing at room xs i →
     s ≡ get_or regions i s →
-    ys ≡ s.bytes →
     length bytes ≤ room →
-    bytes' ≡ over ys (at - s.start) bytes →
-    Stored regions at i s bytes bytes'
-stored regions xs at room i s bytes bytes' ys order same place item read le write =
+    from ≡ at - base_of s.start →
+    length pages ≡ length s.pages →
+    kept_in pages ≡ kept_with (kept_in s.pages) (Some (span_at from (length bytes))) →
+    byte_in pages ≡ put (byte_in s.pages) from bytes →
+    StoredThere regions at i s bytes pages
+stored regions xs at room from i s bytes pages order same place item le is count kept written =
     let place' : IsPlace Storing at room regions i = subst (λ ys. IsPlace Storing at room ys i) same place in
     let start : s.start ≡ (get_or regions i s).start = ap (λ (t : Region). t.start) item in
-    let items : s.bytes ≡ (get_or regions i s).bytes = ap (λ (t : Region). t.bytes) item in
-    let long : length s.bytes ≡ length (get_or regions i s).bytes = ap length items in
-    let from = place'.starts s in
-    let to = place'.ends s in
-    let write' : bytes' ≡ over s.bytes (at - s.start) bytes = write ∙ ap (λ ys. over ys (at - s.start) bytes) read in
-    let ranges = ranges_set regions i s (with_contents s bytes') item (range_over s bytes' (at - s.start) bytes (omega arith) write') in
+    let stop : stop_of s ≡ stop_of (get_or regions i s) = ap stop_of item in
+    let begins : s.start ≤ at = omega (arith, start, place'.starts s) in
+    let ends : at + length bytes ≤ stop_of s = omega (arith, stop, place'.ends s) in
+    let ranges = ranges_set regions i s (with_pages s pages) item refl in
+    let counts = map-set_same (λ (r : Region). length r.pages) regions i (with_pages s pages) s (count
+    ∙ ap (λ (r : Region). length r.pages) item) in
+    let written' : byte_in pages ≡ put (byte_in s.pages) (at - base_of s.start) bytes = written
+    ∙ ap (λ n. put (byte_in s.pages) n bytes) is in
+    let kept' : kept_in pages ≡ kept_with (kept_in s.pages) (Some (span_at (at - base_of s.start) (length bytes))) =
+    kept ∙ ap (λ n. kept_with (kept_in s.pages) (Some (span_at n (length bytes)))) is in
     record {
       ranges = ranges;
-      in_order = order_kept _ regions ranges order;
-      bytes_are = λ j a. stored_in regions i at bytes (with_contents s bytes') s order place'.within from
-          (omega arith) start (write' ∙ ap (λ xs. over xs (at - s.start) bytes) items
-          ∙ ap (λ n. over (get_or regions i s).bytes (at - n) bytes) start) a j;
+      in_order = order_kept _ regions ranges counts order;
+      puts = record {
+        bytes_are = λ j a. stored_in regions i at bytes pages s s order place'.within item begins ends written' a j;
+        pages_are = λ j page. any_set (keeps page) regions i s (with_pages s pages) s (meets (span_at at (length bytes)) page)
+            place'.within item (kept_there s pages at (length bytes) page begins kept') j;
+      };
     }
+
+pub unchanged :
+    (regions : List Region) (i : ℕ) (s : Region) (pages : List (List ℕ)) →
+    s ≡ get_or regions i s →
+    pages ≡ s.pages →
+    slice_set regions i (with_pages s pages) ≡ regions
+unchanged regions i s pages item same =
+    ap (λ p. slice_set regions i (with_pages s p)) same ∙ ap (slice_set regions i) item ∙ set-get_or regions i s

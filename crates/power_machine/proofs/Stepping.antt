@@ -1,13 +1,13 @@
 -- Steps and runs, from what the calls ensure.
-use Rattle.std.proofs.Common.{◌≡◌, ℕ, zero, suc, ◌+◌, ◌<◌, ◌≤◌, List, Option, Some, None, refl, sym, ap, ◌∙◌, subst, arith, add-one}
+use Rattle.std.proofs.Common.{◌≡◌, Bool, true, false, cond, ℕ, ◌+◌, ◌<◌, List, Option, Some, None, refl, sym, ap, ◌∙◌, subst, arith, add-one}
 use Rattle.power_machine.specs.declared.code.Code.{Code}
 use Rattle.power_machine.specs.declared.reason.Reason.{Reason}
 use Rattle.power_machine.specs.declared.machine.StepOutcome.{StepOutcome}
 use Rattle.power_machine.specs.declared.machine.StepOutcome.TheVariants as outcome
 use Rattle.power_machine.specs.Memory.{Range}
 use Rattle.power_machine.specs.Codes.{IsNext}
-use Rattle.power_machine.specs.Machines.{Next, Went, Left}
-use Rattle.power_machine.specs.Runs.{Progress, Going, Done, Gone, progress_of, begun, StepsFrom, Steps, OneMore, Reaches}
+use Rattle.power_machine.specs.Machines.{Next, Went, Left, check}
+use Rattle.power_machine.specs.Runs.{Going, Done, Gone, progress_of, begun, StepsFrom, Steps, Reaches}
 use Rattle.power_machine.specs.Steps.{NumberRun, NumberProgress, IsStep, step_over, went_outcome, Performs, Made}
 use Rattle.power_machine.specs.laws.Runs.{over_stays}
 
@@ -140,3 +140,11 @@ module _ (ranges : List Range) (old : NumberRun) where
       Made ranges' now new outcome.Memory →
       (k : ℕ) × (k < m) × Reaches (IsStep ranges) k old (Going new)
   keeps_now ranges' n m now new lt so_far made = (n, lt, subst (λ r. Reaches (IsStep ranges) n old (Going r)) (sym made.performs) so_far)
+
+-- what was read is what a load gives
+pub loaded :
+    {S : Type 0} (b : Bool) (m n : ℕ) (f : ℕ → S) (reason : Reason) →
+    Some n ≡ cond b (Some m) None →
+    check b reason (Went (f m)) ≡ Went (f n)
+loaded true m n f reason e = let same : n ≡ m = cc in ap (λ k. Went (f k)) (sym same)
+loaded false m n f reason e = cc

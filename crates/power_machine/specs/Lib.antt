@@ -1,4 +1,5 @@
 pub mod Bytes
+pub mod Paging
 pub mod Memory
 pub mod Machines
 pub mod Numbers
@@ -7,5 +8,6 @@ pub mod Calls
 pub mod Runs
 pub mod Steps
 pub mod Start
+pub mod Pages
 pub mod inside
 pub mod laws

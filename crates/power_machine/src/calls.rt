@@ -4,6 +4,7 @@ ghost use Rattle.power_machine.specs.Memory.{byte_at};
 ghost use Rattle.power_machine.specs.Calls.{calls, reads, writes, exits, after_call, event_of};
 ghost use Rattle.power_machine.specs.Numbers.{numbers, state_of};
 ghost use Rattle.power_machine.specs.inside.Core.{asked_in};
+ghost use Rattle.power_machine.specs.Pages.{PagesAfter, kept_pages, stored_by_call, stored_by_read};
 ghost use Rattle.power_machine.specs.Steps.{run_of, machine_may, machine_ranges, Performs};
 
 use crate::machine::{Machine, StepOutcome};
@@ -46,6 +47,8 @@ impl Machine {
         ensures performs { let r = run_of self.old world.old in
             Performs (exits numbers r) r (run_of self.new world.new) result }
         ensures ranges { machine_ranges self.new ≡ machine_ranges self.old }
+        ensures pages { PagesAfter None (kept_pages self.old)
+            (kept_pages self.new) result }
     {
         let status = (self.core.registers[3] % 256) as u8;
         self.ended = Some(status);
@@ -57,6 +60,8 @@ impl Machine {
         ensures performs { let r = run_of self.old world.old in
             Performs (reads numbers (machine_may self.old) r) r (run_of self.new world.new) result }
         ensures ranges { machine_ranges self.new ≡ machine_ranges self.old }
+        ensures pages { PagesAfter (Some (stored_by_read (run_of self.old world.old)))
+            (kept_pages self.old) (kept_pages self.new) result }
     {
         let address = self.core.registers[4];
         let length = self.core.registers[5];
@@ -71,10 +76,15 @@ impl Machine {
             return StepOutcome::Memory;
         };
         let event = self.core.event(3, answer, Bytes::of(copy));
+        if self.events.reserve(1).is_err() {
+            return StepOutcome::Memory;
+        }
+        let Ok(()) = self.core.memory.fill(address, length, bytes) else {
+            return StepOutcome::Memory;
+        };
         if self.events.push(event).is_err() {
             return StepOutcome::Memory;
         }
-        self.core.memory.fill(address, length, bytes);
         self.core.called(answer, count);
         world.take(most);
         StepOutcome::Went
@@ -86,12 +96,14 @@ impl Machine {
             Performs (writes numbers (machine_may self.old) r) r (run_of self.new world.new)
             result }
         ensures ranges { machine_ranges self.new ≡ machine_ranges self.old }
+        ensures pages { PagesAfter None (kept_pages self.old)
+            (kept_pages self.new) result }
     {
         let address = self.core.registers[4];
         let length = self.core.registers[5];
         let answer = world.next();
         let count = answer.granted(length);
-        let bytes = match self.core.memory.copy_at(self.alloc, address, length, count) {
+        let bytes = match self.core.memory.copy_at(address, length, count) {
             Ok(Some(bytes)) => bytes,
             Ok(None) => return StepOutcome::Left(Reason::Load, self.core.at),
             Err(_) => return StepOutcome::Memory,
@@ -111,6 +123,8 @@ impl Machine {
         ensures performs { let r = run_of self.old world.old in
             Performs (calls numbers (machine_may self.old) r) r (run_of self.new world.new) result }
         ensures ranges { machine_ranges self.new ≡ machine_ranges self.old }
+        ensures pages { PagesAfter (stored_by_call (run_of self.old world.old))
+            (kept_pages self.old) (kept_pages self.new) result }
     {
         match self.core.registers[0] {
             1 | 234 => self.exit(world),

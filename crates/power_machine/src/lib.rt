@@ -2,13 +2,14 @@
 // registers, memory, fetches, operations and four system calls, in a world that answers reads and writes.
 #![tactic(auto)]
 
+mod bytes;
 mod calls;
 mod code;
-mod contents;
 mod laws;
 mod loading;
 mod machine;
 mod memory;
+mod pages;
 mod reason;
 mod state;
 mod world;
@@ -18,6 +19,7 @@ pub use laws::{
     operations_keep_the_rest, runs_are_one, steps_are_one, steps_are_runs, stores_move_before,
 };
 pub use machine::{Machine, Outcome, StepOutcome};
+pub use memory::{AddressSpace, Purpose, Stored, size_of};
 pub use reason::Reason;
 pub use world::{Answer, Event, World};
 
@@ -25,6 +27,8 @@ pub use world::{Answer, Event, World};
 mod call_tests;
 #[cfg(test)]
 mod insn_tests;
+#[cfg(test)]
+mod page_tests;
 #[cfg(test)]
 mod test_programs;
 #[cfg(test)]

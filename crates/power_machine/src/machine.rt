@@ -4,6 +4,7 @@ ghost use Rattle.power_insns.specs.Operations.{IsWellNamed};
 ghost use Rattle.power_machine.specs.Codes.{IsNext};
 ghost use Rattle.power_machine.specs.Numbers.{numbers, core_ranges, state_of};
 ghost use Rattle.power_machine.specs.Steps.{run_of, machine_may, machine_ranges, Made, Performs, RunAnswers};
+ghost use Rattle.power_machine.specs.Pages.{PagesAfter, RunKeeps, StepKeeps, kept_pages, stored_by_operation};
 ghost use Rattle.power_machine.specs.Runs.{operates, is_call};
 
 use crate::code::{Code, code_at};
@@ -71,6 +72,14 @@ impl Machine {
         &self.events
     }
 
+    /// Whether a page is kept: page p has the addresses from `p * 0x1000` to `p * 0x1000 + 0x1000`. One that isn't kept holds zeros and has
+    /// no bytes.
+    pub fn page_kept(&self, page: u64) -> bool
+        ensures { result ≡ kept_pages self.now page }
+    {
+        self.core.memory.keeps_page(page)
+    }
+
     // An operation, of an instruction of so many bytes.
     fn operate(&mut self, size: u64, operation: &Operation, world: &mut World) -> StepOutcome
         requires names { IsWellNamed operation.now }
@@ -79,6 +88,8 @@ impl Machine {
             Performs (operates numbers (machine_may self.old) r size operation.now) r
             (run_of self.new world.new) result }
         ensures ranges { machine_ranges self.new ≡ machine_ranges self.old }
+        ensures pages { PagesAfter (stored_by_operation (run_of self.old world.old) operation.now)
+            (kept_pages self.old) (kept_pages self.new) result }
     {
         if is_system(operation) {
             return self.call(world);
@@ -87,6 +98,7 @@ impl Machine {
         match self.core.act(size, operation) {
             CoreOutcome::Went => StepOutcome::Went,
             CoreOutcome::Left(reason) => StepOutcome::Left(reason, at),
+            CoreOutcome::Memory => StepOutcome::Memory,
         }
     }
 
@@ -95,6 +107,8 @@ impl Machine {
         ensures made { Made (machine_ranges self.old) (run_of self.old world.old)
             (run_of self.new world.new) result }
         ensures ranges { machine_ranges self.new ≡ machine_ranges self.old }
+        ensures pages { StepKeeps (machine_ranges self.old) (run_of self.old world.old)
+            (kept_pages self.old) (kept_pages self.new) result }
     {
         if let Some(status) = self.ended {
             return StepOutcome::Ended(status);
@@ -112,6 +126,8 @@ impl Machine {
         ensures answers { RunAnswers (machine_ranges self.old) budget
             (run_of self.old world.old) (run_of self.new world.new) result }
         ensures ranges { machine_ranges self.new ≡ machine_ranges self.old }
+        ensures pages { RunKeeps (machine_ranges self.old) budget (run_of self.old world.old)
+            (run_of self.new world.new) (kept_pages self.old) (kept_pages self.new) result }
     {
         if let Some(status) = self.ended {
             return Outcome::Exited(status);

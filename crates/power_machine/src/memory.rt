@@ -1,15 +1,19 @@
-// Memory: regions of bytes.
-ghost use Rattle.std.specs.Prelude.{◌≡◌, ◌+◌, ◌≤◌, ◌<◌, ◌-◌, ◌^◌, ℕ, List, length, IfSome, IfOk, true, false, if◌then◌else◌, Some, None};
+// Memory: regions of bytes, which are kept by pages.
+ghost use Rattle.std.specs.Prelude.{◌≡◌, ◌≢◌, ◌+◌, ◌*◌, ◌≤◌, ◌<◌, ◌-◌, ◌^◌, ℕ, List, length, IfSome, IfOk, OnOk, OnErr, true, false, if◌then◌else◌, Some, None};
 ghost use Rattle.power_insns.specs.Arithmetic.{bytes_of};
 ghost use Rattle.power_machine.specs.declared.memory.Purpose.TheVariants.{Loading, Storing};
 ghost use Rattle.power_machine.specs.Bytes.{spelled};
-ghost use Rattle.power_machine.specs.Memory.{permits, holds, range_of, ranges_of, allows, allows_range};
-ghost use Rattle.power_machine.specs.inside.Regions.{BeginBy, InOrder, IsPlace, Puts, bytes_read, number_read, permitted, place_of, range_read};
+ghost use Rattle.power_machine.specs.Memory.{permits, holds, range_of, ranges_of, allows, allows_range, base_of, keeps, keeps_page};
+ghost use Rattle.power_machine.specs.inside.Regions.{BeginBy, InOrder, IsPlace, Puts, Writes, bytes_read, number_read, permitted, place_of, range_read};
+ghost use Rattle.power_machine.specs.declared.memory.Stored.TheVariants.{Whole};
 
-use crate::contents::{Contents, number_in};
+use crate::pages::{PAGE, Pages};
 use power_insns::meaning::Width;
 use ppc_bytes::Bytes;
 use std::alloc::{AllocError, Global};
+
+/// How many addresses a page has, as an address.
+pub const PAGE_SIZE: u64 = PAGE as u64;
 
 /// What bytes of memory are wanted for.
 #[derive(Clone, Copy)]
@@ -19,13 +23,14 @@ pub enum Purpose {
     Fetching,
 }
 
-/// Bytes from an address on.
+/// Bytes from an address on, by pages from the one on which the first of them lies.
 #[derive(Drop)]
 pub struct Region {
     pub start: u64,
+    pub size: u64,
     pub writable: bool,
     pub executable: bool,
-    pub bytes: Contents,
+    pub pages: Pages,
 }
 
 impl Region {
@@ -43,19 +48,47 @@ impl Region {
     fn holds(&self, purpose: Purpose, at: u64, count: u64) -> bool
         ensures { result ≡ holds purpose at count (range_of self.now) }
     {
-        let size = self.bytes.len() as u64;
         self.start <= at
-            && at - self.start <= size
-            && count <= size - (at - self.start)
+            && at - self.start <= self.size
+            && count <= self.size - (at - self.start)
             && self.permits(purpose)
+    }
+
+    // The number in the pages of the byte at an address.
+    fn index_of(&self, at: u64) -> usize
+        requires { self.now.start ≤ at }
+        ensures { result ≡ at - base_of self.now.start }
+    {
+        (at - self.start / PAGE_SIZE * PAGE_SIZE) as usize
+    }
+
+    fn keeps(&self, page: u64) -> bool
+        ensures { result ≡ keeps page self.now }
+    {
+        let first = self.start / PAGE_SIZE;
+        first <= page && self.pages.keeps((page - first) as usize)
     }
 }
 
 /// The regions, in order of their addresses.
 #[derive(Drop)]
 pub struct AddressSpace {
+    pub alloc: Global,
     pub regions: Vec<Region>,
     ghost in_order: { InOrder regions.items },
+}
+
+/// What became of bytes that were to be stored.
+#[derive(Clone, Copy)]
+pub enum Stored {
+    /// They are there.
+    Whole,
+
+    /// They may not be stored there.
+    Outside,
+
+    /// Memory was refused.
+    Refused,
 }
 
 // How many regions begin at or below an address.
@@ -120,48 +153,50 @@ impl AddressSpace {
             return None;
         };
         let region = &self.regions[index];
-        Some(number_in(region.bytes.as_slice(), (at - region.start) as usize, width))
+        Some(region.pages.number_at(region.index_of(at), width))
     }
 
-    /// Puts bytes at an address, where a number of bytes may be stored there.
-    pub fn write(&mut self, at: u64, room: u64, bytes: &[u8]) -> bool
+    /// Puts bytes at an address, where a number of bytes may be stored there, and keeps the pages on which they lie.
+    pub fn write(&mut self, at: u64, room: u64, bytes: &[u8]) -> Stored
         requires some { 0 < room }
         requires fits { length bytes.now ≤ room }
-        ensures allowed { result ≡ allows Storing at room (ranges_of self.old.regions.items) }
         ensures ranges { ranges_of self.new.regions.items ≡ ranges_of self.old.regions.items }
-        ensures stored { result ≡ true → Puts self.old.regions.items self.new.regions.items at
-            bytes.now }
-        ensures refused { result ≡ false → self.new ≡ self.old }
+        ensures writes { Writes self.old.regions.items self.new.regions.items at room bytes.now
+            result }
+        ensures refused { result ≢ Whole → self.new ≡ self.old }
     {
         let Some(index) = place(&self.regions, Purpose::Storing, at, room) else {
-            return false;
+            return Stored::Outside;
         };
         let region = &mut self.regions[index];
-        let from = (at - region.start) as usize;
-        region.bytes.write(from, bytes);
-        true
+        let from = region.index_of(at);
+        match region.pages.write(self.alloc, from, bytes) {
+            Ok(()) => Stored::Whole,
+            Err(_) => Stored::Refused,
+        }
     }
 
-    /// Puts bytes into a call's range that may be stored into.
-    pub fn fill(&mut self, at: u64, room: u64, bytes: &[u8])
+    /// Puts bytes into a call's range that may be stored into. Where memory is refused all stays as it was.
+    pub fn fill(&mut self, at: u64, room: u64, bytes: &[u8]) -> Result<(), AllocError>
         requires fits { length bytes.now ≤ room }
         requires allowed { allows_range (permitted self.old.regions.items) Storing at room ≡ true }
         ensures ranges { ranges_of self.new.regions.items ≡ ranges_of self.old.regions.items }
-        ensures filled { Puts self.old.regions.items self.new.regions.items at bytes.now }
+        ensures filled { OnOk result (Puts self.old.regions.items self.new.regions.items at
+            bytes.now) }
+        ensures refused { OnErr result (self.new ≡ self.old) }
     {
-        if room > 0 {
-            self.write(at, room, bytes);
+        if bytes.is_empty() {
+            return Ok(());
+        }
+        match self.write(at, room, bytes) {
+            Stored::Whole => Ok(()),
+            Stored::Outside => Ok(()),
+            Stored::Refused => Err(AllocError),
         }
     }
 
     // The first bytes at an address, where a number of bytes may be loaded there.
-    fn bytes_at(
-        &self,
-        alloc: Global,
-        at: u64,
-        room: u64,
-        count: u64,
-    ) -> Result<Option<Bytes>, AllocError>
+    fn bytes_at(&self, at: u64, room: u64, count: u64) -> Result<Option<Bytes>, AllocError>
         requires some { 0 < room }
         requires fits { count ≤ room }
         ensures { IfOk result (λ bytes. bytes ≡ bytes_read at room count self.now.regions.items) }
@@ -170,26 +205,28 @@ impl AddressSpace {
             return Ok(None);
         };
         let region = &self.regions[index];
-        let from = (at - region.start) as usize;
-        let bytes = region.bytes.as_slice();
-        Ok(Some(Bytes::of(Vec::from_slice(alloc, &bytes[from..from + count as usize])?)))
+        let bytes = region
+            .pages
+            .copy_of(self.alloc, region.index_of(at), count as usize)?;
+        Ok(Some(Bytes::of(bytes)))
     }
 
     /// The first bytes of a call's range, where it may be loaded from.
-    pub fn copy_at(
-        &self,
-        alloc: Global,
-        at: u64,
-        room: u64,
-        count: u64,
-    ) -> Result<Option<Bytes>, AllocError>
+    pub fn copy_at(&self, at: u64, room: u64, count: u64) -> Result<Option<Bytes>, AllocError>
         requires { count ≤ room }
         ensures { IfOk result (λ bytes. bytes ≡ range_read at room count self.now.regions.items) }
     {
         if room == 0 {
-            return Ok(Some(Bytes::of(Vec::new(alloc))));
+            return Ok(Some(Bytes::of(Vec::new(self.alloc))));
         }
-        self.bytes_at(alloc, at, room, count)
+        self.bytes_at(at, room, count)
+    }
+
+    /// Whether a page is kept.
+    pub fn keeps_page(&self, page: u64) -> bool
+        ensures { result ≡ keeps_page self.now.regions.items page }
+    {
+        self.regions.iter().any(|region| region.keeps(page))
     }
 }
 

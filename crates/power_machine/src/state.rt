@@ -2,12 +2,14 @@
 ghost use Rattle.std.specs.Prelude.{◌≡◌, ◌+◌, ◌*◌, ◌<◌, ◌≤◌, ◌-◌, ◌^◌, ◌%◌, ◌==◌, ◌&&◌, ℕ, Bool, List, length, slice_set, true, false, Option, Some, None, if◌then◌else◌};
 ghost use Rattle.power_insns.specs.Arithmetic.{bytes_of};
 ghost use Rattle.power_insns.specs.Operations.{IsWellNamed, NamesOperand, NamesTarget, NamesBit, NamesUpdate};
-ghost use Rattle.power_machine.specs.Machines.{Went, agrees, with_field, with_result, with_order, load_at, store_at, branch, exec, divide as divide_of, value_of, wanted, met, target_of, one_less, sum_address};
+ghost use Rattle.power_machine.specs.Machines.{Went, agrees, with_field, with_result, with_order, load_at, store_at, branch, exec, divide as divide_of, value_of, wanted, met, target_of, one_less, sum_address, updated};
 ghost use Rattle.power_machine.specs.Memory.{within};
+ghost use Rattle.power_machine.specs.Paging.{span_at};
 ghost use Rattle.power_machine.specs.Numbers.{numbers, state_of, core_ranges};
+ghost use Rattle.power_machine.specs.Pages.{stored_by};
 ghost use Rattle.power_machine.specs.inside.Core.{Did};
 
-use crate::memory::{AddressSpace, Purpose, size_of};
+use crate::memory::{AddressSpace, Purpose, Stored, size_of};
 use crate::reason::Reason;
 use power_insns::compute::{compare, compute, divide, widen};
 use power_insns::meaning::{
@@ -29,6 +31,9 @@ pub struct Core {
 pub enum CoreOutcome {
     Went,
     Left(Reason),
+
+    /// Memory was refused. Nothing has changed.
+    Memory,
 }
 
 // Whether a test is as wanted.
@@ -63,8 +68,8 @@ impl Core {
     // Sets a register, and field 0 of CR by its value where that is asked.
     fn finish(&mut self, size: u64, to: u32, value: u64, rc: bool) -> CoreOutcome
         requires { to < 34 }
-        ensures { Did (Went (with_result numbers size (state_of self.old) to value rc)) self.old
-            self.new result }
+        ensures { Did (Went (with_result numbers size (state_of self.old) to value rc)) None
+            self.old self.new result }
     {
         self.registers[to as usize] = value;
         if rc {
@@ -80,7 +85,7 @@ impl Core {
 
     fn set_order(&mut self, size: u64, field: u32, bits: [bool; 4]) -> CoreOutcome
         requires { field < 8 }
-        ensures { Did (Went (with_order numbers size (state_of self.old) field bits)) self.old
+        ensures { Did (Went (with_order numbers size (state_of self.old) field bits)) None self.old
             self.new result }
     {
         set_field(&mut self.condition, field, bits);
@@ -90,7 +95,7 @@ impl Core {
 
     fn divide(&mut self, size: u64, sign: Sign, to: u32, x: u64, y: u64, rc: bool) -> CoreOutcome
         requires { to < 34 }
-        ensures { Did (divide_of numbers size (state_of self.old) sign to x y rc) self.old
+        ensures { Did (divide_of numbers size (state_of self.old) sign to x y rc) None self.old
             self.new result }
     {
         match divide(sign, x, y) {
@@ -102,7 +107,7 @@ impl Core {
     fn load(&mut self, size: u64, width: Width, sign: Sign, to: u32, at: u64) -> CoreOutcome
         requires { to < 34 }
         ensures { Did (load_at numbers size (within (core_ranges self.old)) (state_of self.old)
-            width sign to at) self.old self.new result }
+            width sign to at) None self.old self.new result }
     {
         match self.memory.number_at(Purpose::Loading, at, width) {
             Some(n) => self.finish(size, to, widen(width, sign, n), false),
@@ -122,18 +127,31 @@ impl Core {
         requires from { from < 34 }
         requires update { NamesUpdate update }
         ensures { Did (store_at numbers size (within (core_ranges self.old)) (state_of self.old)
-            width from update at) self.old self.new result }
+            width from update at) (Some (span_at at (bytes_of width))) self.old self.new result }
     {
         let bytes = self.registers[from as usize].to_le_bytes();
         let count = size_of(width);
-        if !self.memory.write(at, count, &bytes[..count as usize]) {
-            return CoreOutcome::Left(Reason::Store);
+        match self.memory.write(at, count, &bytes[..count as usize]) {
+            Stored::Whole => {}
+            Stored::Outside => return CoreOutcome::Left(Reason::Store),
+            Stored::Refused => return CoreOutcome::Memory,
         }
+        self.go_on(size, update, at);
+        CoreOutcome::Went
+    }
+
+    // Goes on behind a store, whose address a register may get.
+    fn go_on(&mut self, size: u64, update: Option<u32>, address: u64)
+        requires { NamesUpdate update }
+        ensures at { self.new.at ≡ sum_address self.old.at size }
+        ensures registers { self.new.registers ≡ updated numbers self.old.registers update address }
+        ensures condition { self.new.condition ≡ self.old.condition }
+        ensures memory { self.new.memory ≡ self.old.memory }
+    {
         if let Some(r) = update {
-            self.registers[r as usize] = at;
+            self.registers[r as usize] = address;
         }
         self.at = self.at.wrapping_add(size);
-        CoreOutcome::Went
     }
 
     // Whether the condition register is as wanted.
@@ -168,7 +186,7 @@ impl Core {
     ) -> CoreOutcome
         requires bit { NamesBit condition }
         requires target { NamesTarget target }
-        ensures { Did (branch numbers size (state_of self.old) counter condition target link)
+        ensures { Did (branch numbers size (state_of self.old) counter condition target link) None
             self.old self.new result }
     {
         let counted = match counter {
@@ -196,7 +214,8 @@ impl Core {
     pub fn act(&mut self, size: u64, operation: &Operation) -> CoreOutcome
         requires { IsWellNamed operation.now }
         ensures { Did (exec numbers size (within (core_ranges self.old)) operation.now
-            (state_of self.old)) self.old self.new result }
+            (state_of self.old)) (stored_by (state_of self.old) operation.now) self.old self.new
+            result }
     {
         match *operation {
             Operation::Copy { to, from, rc } => {

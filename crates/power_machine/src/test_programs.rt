@@ -32,8 +32,8 @@ pub const CONDITION: &str = "38600000
 40980008 60630080 40990008 60630040 409A0008 60630020 409B0008 60630010
 409C0008 60630008 409D0008 60630004 409E0008 60630002 409F0008 60630001";
 
-// The bytes of words in hex.
-fn bytes_of(alloc: Global, parts: &[&str]) -> Result<Vec<u8>, Fail> {
+/// The bytes of words in hex.
+pub fn bytes_of(alloc: Global, parts: &[&str]) -> Result<Vec<u8>, Fail> {
     let mut bytes = Vec::new(alloc);
     for part in parts {
         for word in part.split_whitespace() {

@@ -18,8 +18,8 @@ pub enum Answer {
 }
 
 impl Answer {
-    // At most so many of a number of bytes.
-    pub(crate) fn granted(self, length: u64) -> u64
+    /// At most so many of a number of bytes.
+    pub fn granted(self, length: u64) -> u64
         ensures { result ≡ granted_of self length }
     {
         match self {
@@ -29,8 +29,8 @@ impl Answer {
         }
     }
 
-    // The error's number, or 0.
-    pub(crate) fn error(self) -> u32
+    /// The error's number, or 0.
+    pub fn error(self) -> u32
         ensures { result ≡ error_of self }
     {
         match self {
@@ -39,8 +39,8 @@ impl Answer {
         }
     }
 
-    // Whether it is an error.
-    pub(crate) fn is_error(self) -> bool
+    /// Whether it is an error.
+    pub fn is_error(self) -> bool
         ensures { result ≡ is_error self }
     {
         match self {
@@ -49,8 +49,8 @@ impl Answer {
         }
     }
 
-    // What the call gives as its result, where so many bytes came or went.
-    pub(crate) fn result(self, count: u64) -> u64
+    /// What the call gives as its result, where so many bytes came or went.
+    pub fn result(self, count: u64) -> u64
         ensures { result ≡ result_of self count }
     {
         match self {
@@ -84,8 +84,8 @@ impl World {
         }
     }
 
-    // The next answer.
-    pub(crate) fn next(&self) -> Answer
+    /// The next answer.
+    pub fn next(&self) -> Answer
         ensures { result ≡ first_answer (drop self.now.used self.now.answers.items) }
     {
         if self.used < self.answers.len() {
@@ -95,8 +95,8 @@ impl World {
         }
     }
 
-    // The next bytes of the input, at most so many.
-    pub(crate) fn next_bytes(&self, most: u64) -> &[u8]
+    /// The next bytes of the input, at most so many.
+    pub fn next_bytes(&self, most: u64) -> &[u8]
         ensures { result.now ≡ take most (drop self.now.taken self.now.input.items) }
     {
         if self.taken >= self.input.len() {
@@ -110,8 +110,8 @@ impl World {
         }
     }
 
-    // Takes the next answer, and so many bytes of the input.
-    pub(crate) fn take(&mut self, most: u64)
+    /// Takes the next answer, and so many bytes of the input.
+    pub fn take(&mut self, most: u64)
         ensures answers { drop self.new.used self.new.answers.items ≡ drop 1
             (drop self.old.used self.old.answers.items) }
         ensures input { drop self.new.taken self.new.input.items ≡ drop most

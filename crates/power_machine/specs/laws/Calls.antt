@@ -1,6 +1,5 @@
 -- Related runs make the same calls: the same events, the same answers and input taken, and the same end.
-use Rattle.std.proofs.Common.{◌≡◌, ◌⊎◌, ◌≤◌, ℕ, zero, suc, ◌+◌, ◌-◌, Bool, true, false, ◌&&◌, ◌||◌, ◌==◌, cond, List, [], ◌∷◌, ◌++◌, length, map, take, drop, Option, Some, None, inl, inr, ⊎_elim, refl, sym, ap, ◌∙◌, subst, arith}
-use Rattle.std.specs.Prelude.{min, nat_le, nat_lt}
+use Rattle.std.proofs.Common.{◌≡◌, ◌⊎◌, ◌≤◌, ℕ, zero, suc, Bool, true, false, ◌||◌, ◌==◌, cond, List, [], ◌∷◌, ◌++◌, length, map, take, drop, Option, Some, None, inl, inr, ⊎_elim, refl, sym, ap, ◌∙◌, subst, arith}
 use Rattle.std.proofs.lemmas.List.{length-take}
 use Rattle.std.proofs.lemmas.Bool.Decides.{nat_tests}
 use Rattle.power_insns.specs.declared.meaning.Operation.{Operation}
@@ -11,10 +10,9 @@ use Rattle.power_machine.specs.declared.reason.Reason.{Reason}
 use Rattle.power_machine.specs.declared.reason.Reason.TheVariants as why
 use Rattle.power_machine.specs.declared.world.Answer.{Answer}
 use Rattle.power_machine.specs.declared.world.Answer.TheVariants.{Whole, Short, Error}
-use Rattle.power_machine.specs.declared.world.Event.{Event}
 use Rattle.power_machine.specs.Memory.{Permission, allows_range, bytes_from, put}
 use Rattle.power_machine.specs.Machines.{Domain, State, Next, Went, Left, exec}
-use Rattle.power_machine.specs.Calls.{Run, Asked, first_answer, granted, is_error, result_of, event_of, with_number, number_in, numbers_in, after_call, answered, after_read, after_write, asking, read_by, reads, write_by, writes, ended_by, exits, call_by, calls}
+use Rattle.power_machine.specs.Calls.{Run, Asked, first_answer, granted, is_error, result_of, event_of, with_number, number_in, numbers_in, after_call, answered, after_read, asking, read_by, reads, write_by, writes, exits, call_by, calls}
 use Rattle.power_machine.specs.Runs.{is_call, next_of, operates}
 use Rattle.power_machine.specs.laws.Related.{Pairwise, Known, Simulated, Related, Registers, Memories, AllowsMore, Confined, Match, MatchRuns, Bytewise}
 use Rattle.power_machine.specs.laws.Pairwise.{pairwise_set, pairwise_take, take-bytes_from}

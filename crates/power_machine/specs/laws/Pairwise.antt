@@ -1,5 +1,5 @@
 -- Lists that are related element by element, and memories that are related at each address.
-use Rattle.std.proofs.Common.{◌≡◌, ℕ, zero, suc, ◌+◌, ◌-◌, ◌≤◌, Bool, true, false, ◌&&◌, cond, List, [], ◌∷◌, ◌++◌, length, map, take, drop, refl, sym, ap, ◌∙◌, subst, arith, nat_le, nat_lt, slice_index_or, slice_set}
+use Rattle.std.proofs.Common.{◌≡◌, ℕ, zero, suc, ◌+◌, ◌-◌, ◌≤◌, Bool, true, false, ◌&&◌, cond, List, [], ◌∷◌, ◌++◌, length, map, take, drop, refl, ap, ◌∙◌, subst, arith, nat_le, nat_lt, slice_index_or, slice_set}
 use Rattle.power_machine.specs.Bytes.{over}
 use Rattle.power_machine.specs.Memory.{bytes_from, put}
 use Rattle.power_machine.specs.laws.Related.{Pairwise, Bytewise}

@@ -1,5 +1,5 @@
 -- Laws of runs, over every kind of value and every way of taking a step.
-use Rattle.std.proofs.Common.{◌≡◌, ◌≤◌, ℕ, zero, suc, Bool, true, false, ◌==◌, ◌||◌, cond, List, [], ◌∷◌, ◌++◌, Option, Some, None, refl, sym, ap, ◌∙◌, subst, arith, ⊎_elim}
+use Rattle.std.proofs.Common.{◌≡◌, ◌≤◌, ℕ, zero, suc, Bool, true, false, ◌==◌, ◌||◌, cond, List, [], ◌∷◌, Option, Some, None, refl, sym, ap, ◌∙◌, subst, arith, ⊎_elim}
 use Rattle.std.proofs.lemmas.Bool.{cases_lt}
 use Rattle.std.proofs.lemmas.List.{append-nil}
 use Rattle.power_insns.specs.declared.meaning.Operation.{Operation}
@@ -11,7 +11,7 @@ use Rattle.power_machine.specs.declared.world.Answer.{Answer}
 use Rattle.power_machine.specs.declared.world.Event.{Event}
 use Rattle.power_machine.specs.Memory.{Permission, allows_range, bytes_from}
 use Rattle.power_machine.specs.Machines.{Domain, State, Next, Went, Left, need, check, state_after, exec}
-use Rattle.power_machine.specs.Calls.{Run, Asked, event_of, first_answer, granted, number_in, numbers_in, after_write, after_read, asking, read_by, reads, write_by, writes, ended_by, exits, call_by, calls}
+use Rattle.power_machine.specs.Calls.{Run, Asked, event_of, first_answer, granted, number_in, numbers_in, after_write, asking, read_by, reads, write_by, writes, exits, call_by, calls}
 use Rattle.power_machine.specs.Runs.{Progress, Going, Done, Gone, begun, progress_of, run_in, StepsFrom, Steps, OneMore, Reaches, Continues, Grows, is_call, next_of, operates}
 use Rattle.power_machine.specs.laws.Induction.{Steps as ManySteps, step_after}
 

@@ -1,5 +1,5 @@
 -- One law for all instructions: machines over related kinds of values stay related.
-use Rattle.std.proofs.Common.{◌≡◌, ℕ, zero, suc, ◌+◌, ◌-◌, ◌*◌, Bool, true, false, ◌&&◌, ◌==◌, cond, List, [], ◌∷◌, ◌++◌, length, take, drop, Option, Some, None, inl, inr, refl, sym, ap, ◌∙◌, subst, true≢false, nat_le, nat_lt, slice_index_or, slice_set}
+use Rattle.std.proofs.Common.{◌≡◌, ℕ, ◌*◌, Bool, true, false, ◌&&◌, ◌==◌, List, Option, Some, None, inl, inr, refl, sym, ap, ◌∙◌, subst, true≢false}
 use Rattle.power_insns.specs.declared.meaning.Width.{Width}
 use Rattle.power_insns.specs.declared.meaning.Width.TheVariants.{Long}
 use Rattle.power_insns.specs.declared.meaning.Sign.{Sign}
@@ -20,7 +20,7 @@ use Rattle.power_insns.specs.Uses.{IsRegister, GoesThrough, Links, Updates}
 use Rattle.power_machine.specs.declared.memory.Purpose.TheVariants.{Loading, Storing}
 use Rattle.power_machine.specs.declared.reason.Reason.{Reason}
 use Rattle.power_machine.specs.declared.reason.Reason.TheVariants as why
-use Rattle.power_machine.specs.Memory.{Permission, bytes_from, put}
+use Rattle.power_machine.specs.Memory.{Permission}
 use Rattle.power_machine.specs.Machines.{Domain, State, Next, Went, Left, need, check, sum_address, one_less, agrees, met, with_field, register, value_of, with_result, updated, load_at, store_at, with_address, target_of, linked, going, branches, wanted, branch_if, branch, divide, exec}
 use Rattle.power_machine.specs.Numbers.{numbers}
 use Rattle.power_machine.specs.laws.Pairwise.{pairwise_at, pairwise_set, pairwise_over, pairwise_bytes, length-bytes_from, choice_related, put_related, pairwise_map, pairwise_same, lists_same}

@@ -12,7 +12,7 @@ use Rattle.power_machine.specs.declared.world.Answer.{Answer}
 use Rattle.power_machine.specs.declared.world.World.{World}
 use Rattle.power_machine.specs.Memory.{Range, within}
 use Rattle.power_machine.specs.Codes.{Stands}
-use Rattle.power_machine.specs.Machines.{Next, Went, state_after}
+use Rattle.power_machine.specs.Machines.{Next, state_after}
 use Rattle.power_machine.specs.Numbers.{numbers}
 use Rattle.power_machine.specs.Runs.{StepsFrom, Steps, Grows}
 use Rattle.power_machine.specs.Steps.{NumberRun, NumberProgress, IsStep, ReachesIn, step_over, run_of}

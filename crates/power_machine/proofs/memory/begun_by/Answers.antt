@@ -1,5 +1,5 @@
 -- The regions begin in order, so one test tells of all that stand in front of the middle, or behind it.
-use Rattle.std.proofs.Common.{◌+◌, ◌-◌, ◌/◌, ◌≤◌, arith}
+use Rattle.std.proofs.Common.{◌+◌, ◌-◌, ◌/◌, arith}
 use Rattle.power_machine.proofs.Places.{begun_to, ahead_from}
 use Rattle.power_machine.proofs.memory.begun_by.Goals as goal
 

@@ -1,5 +1,5 @@
 -- Only the last region that begins at or below an address can hold a byte there: where none begins so, none does ..
-use Rattle.std.proofs.Common.{◌≡◌, ◌+◌, ◌-◌, ◌∙◌, sym, ap, subst, cond, Some, None, true, false, arith}
+use Rattle.std.proofs.Common.{◌-◌, ◌∙◌, sym, ap, subst, cond, Some, None, arith}
 use Rattle.power_machine.specs.Memory.{holds, range_of}
 use Rattle.power_machine.specs.inside.Regions.{BeginBy}
 use Rattle.power_machine.proofs.Places.{no_place, place_tested, some_region}
