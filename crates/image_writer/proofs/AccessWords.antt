@@ -79,7 +79,8 @@ fourth disp whole =
 -- the form of one with a displacement of whole words
 fourth_told : (opcode last register base word : ℕ) (op : POp) (disp : ℤ) (form : ShortForm) → opcode < 64 → nat_lt opcode 58 ≡ false →
     last < 4 → prefixed_by opcode last ≡ op → register < 32 → base < 32 → IsDisplacement 16 disp →
-    (((opcode * 32 + register) * 32 + base) * 16384 + low_of 16 disp / 4) * 4 + last ≡ word → Some (form_by op register base disp) ≡ Some form →
+    (((opcode * 32 + register) * 32 + base) * 16384 + low_of 16 disp / 4) * 4 + last ≡ word →
+    Some (form_by op register base disp) ≡ Some form →
     access_form word ≡ form
 fourth_told opcode last register base word op disp form below test few mnemonic r b fits is some =
     let bits = low_of-lt 16 disp in
@@ -93,16 +94,24 @@ fourth_told opcode last register base word op disp form below test few mnemonic 
     let same : form_by op register base disp ≡ form = cc in
     parts_told word opcode last register base half op disp has tail mnemonic low ∙ same
 
-told : (insn : Insn) (form : ShortForm) (word : ℕ) → Fits insn → word_of insn ≡ word → short_form_of insn ≡ Some form → access_form word ≡ form
+told : (insn : Insn) (form : ShortForm) (word : ℕ) → Fits insn → word_of insn ≡ word → short_form_of insn ≡ Some form →
+    access_form word ≡ form
 unfolding form_by
 told = elim [
-  | Lwz rt ra d ↦ λ form word fits is some. whole_told 32 rt ra word Plwz d form (omega arith) refl (λ last. refl) fits.0 fits.1 fits.2 is some
-  | Lbz rt ra d ↦ λ form word fits is some. whole_told 34 rt ra word Plbz d form (omega arith) refl (λ last. refl) fits.0 fits.1 fits.2 is some
-  | Stw rs ra d ↦ λ form word fits is some. whole_told 36 rs ra word Pstw d form (omega arith) refl (λ last. refl) fits.0 fits.1 fits.2 is some
-  | Stb rs ra d ↦ λ form word fits is some. whole_told 38 rs ra word Pstb d form (omega arith) refl (λ last. refl) fits.0 fits.1 fits.2 is some
-  | Lhz rt ra d ↦ λ form word fits is some. whole_told 40 rt ra word Plhz d form (omega arith) refl (λ last. refl) fits.0 fits.1 fits.2 is some
-  | Lha rt ra d ↦ λ form word fits is some. whole_told 42 rt ra word Plha d form (omega arith) refl (λ last. refl) fits.0 fits.1 fits.2 is some
-  | Sth rs ra d ↦ λ form word fits is some. whole_told 44 rs ra word Psth d form (omega arith) refl (λ last. refl) fits.0 fits.1 fits.2 is some
+  | Lwz rt ra d ↦ λ form word fits is some.
+      whole_told 32 rt ra word Plwz d form (omega arith) refl (λ last. refl) fits.0 fits.1 fits.2 is some
+  | Lbz rt ra d ↦ λ form word fits is some.
+      whole_told 34 rt ra word Plbz d form (omega arith) refl (λ last. refl) fits.0 fits.1 fits.2 is some
+  | Stw rs ra d ↦ λ form word fits is some.
+      whole_told 36 rs ra word Pstw d form (omega arith) refl (λ last. refl) fits.0 fits.1 fits.2 is some
+  | Stb rs ra d ↦ λ form word fits is some.
+      whole_told 38 rs ra word Pstb d form (omega arith) refl (λ last. refl) fits.0 fits.1 fits.2 is some
+  | Lhz rt ra d ↦ λ form word fits is some.
+      whole_told 40 rt ra word Plhz d form (omega arith) refl (λ last. refl) fits.0 fits.1 fits.2 is some
+  | Lha rt ra d ↦ λ form word fits is some.
+      whole_told 42 rt ra word Plha d form (omega arith) refl (λ last. refl) fits.0 fits.1 fits.2 is some
+  | Sth rs ra d ↦ λ form word fits is some.
+      whole_told 44 rs ra word Psth d form (omega arith) refl (λ last. refl) fits.0 fits.1 fits.2 is some
   | Ld rt ra d ↦ λ form word fits is some.
       fourth_told 58 0 rt ra word Pld d form (omega arith) refl (omega arith) refl fits.0 fits.1 fits.2 is some
   | Lwa rt ra d ↦ λ form word fits is some.

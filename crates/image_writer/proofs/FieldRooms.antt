@@ -1,13 +1,14 @@
 -- The field of a record in text lies in the text.
-use Rattle.std.proofs.Common.{ℕ, ◌≡◌, ◌<◌, ◌≤◌, ◌+◌, ◌-◌, ◌%◌, ◌^◌, ◌⊎◌, inl, inr, Bool, List, None, Some, length, slice_index, if◌then◌else◌, ap, sym, ◌∙◌, subst, refl, arith}
+use Rattle.std.proofs.Common.{ℕ, ◌≡◌, ◌<◌, ◌≤◌, ◌+◌, ◌-◌, ◌%◌, ◌^◌, ◌⊎◌, inl, inr, Bool, true, List, None, Some, length, slice_index, if◌then◌else◌, ap, sym, ◌∙◌, subst, refl, arith}
 use Rattle.std.proofs.Math.Nat.{mod-eq_of_lt}
 use Rattle.std.proofs.lemmas.Option.{get_or_from_slice_get}
 use Rattle.elf64_records.specs.Records.{rela_of}
-use Rattle.elf64_records.specs.Sections.{section_bytes}
+use Rattle.elf64_records.specs.Sections.{section_bytes, sh_size}
 use Rattle.object_set.specs.declared.places.RecordId.{RecordId}
 use Rattle.object_set.specs.declared.places.SectionId.{SectionId}
 use Rattle.object_set.specs.Files.{file_at}
 use Rattle.object_set.specs.Refusals.{set_refusal}
+use Rattle.object_set.specs.Sections.{is_text}
 use Rattle.object_set.specs.Walks.{IsRecord}
 use Rattle.reloc_fields.specs.declared.kind.Kind.{Kind}
 use Rattle.reloc_fields.specs.declared.kind.Kind.TheVariants as kind
@@ -24,13 +25,14 @@ use Rattle.toc_groups.specs.Values.{section_place, field_address}
 use Rattle.toc_groups.specs.Data.{section_address as data_address}
 use Rattle.layout_rounds.specs.FarSets.{member}
 use Rattle.layout_rounds.specs.Shapes.{KeyedText}
-use Rattle.layout_rounds.specs.Layout.{PlacedText, section_count, text_end}
+use Rattle.layout_rounds.specs.Layout.{PlacedText, section_count, section_size, text_end}
 use Rattle.image_writer.specs.Text.{text_section, no_section}
 use Rattle.image_writer.specs.Fields.{text_kind}
 use Rattle.image_writer.specs.Job.{IsJob}
 use Rattle.image_writer.specs.inside.Ready.{HasFieldRoom, AreTextAddresses}
 use Rattle.image_writer.proofs.Fielding.{text_field}
-use Rattle.image_writer.proofs.Room.{LayoutGives, section_count_is, start_is, size_is, section_from, text_low}
+use Rattle.image_writer.specs.inside.Gives.{LayoutGives}
+use Rattle.image_writer.proofs.Room.{section_count_is, start_is, size_is, section_from, text_low}
 
 -- a field has four or eight bytes
 pub wide : (k : Kind) → 0 < (line_of k).width → ((line_of k).width ≡ 4) ⊎ ((line_of k).width ≡ 8)
@@ -58,42 +60,64 @@ module _ (files : List (List ℕ)) (plan : LaidData) (sites : List CallSite) (t 
       subst (IsSoundField files r) same
       (sound.field (subst (λ (x : Kind). 0 < (line_of x).width) (sym same) field.fills))
 
+  -- the section of a record in text, among all text sections
+  pub record HasSection (r : RecordId) : Type 0 where
+    pub number_in : text_index files r.file r.section < length (text_sections files)
+    pub counted : text_index files r.file r.section < section_count t
+    pub size : section_size t (text_index files r.file r.section) ≡ length (section_bytes (file_at files r.file) r.section)
+    pub stored : length (section_bytes (file_at files r.file) r.section) ≡ sh_size (file_at files r.file) r.section
+
+  pub own_section : (r : RecordId) → IsRecord files r → is_text (file_at files r.file) r.section ≡ true → HasSection r
+  own_section r here text =
+      let about = record_about files r whole here in
+      let n = text_index files r.file r.section in
+      let within = text_index_within files r.file r.section here.file_in about.within text in
+      let id : text_section files n ≡ record { file = r.file; section = r.section } =
+      get_or_from_slice_get (text_sections files) n (record { file = r.file; section = r.section }) no_section
+      (text_index_found files r.file r.section here.file_in about.within text) in
+      record {
+        number_in = within;
+        counted = omega (arith, within, section_count_is files plan sites t far places whole job gives);
+        size = size_is files plan sites t far places whole job gives n within
+            ∙ ap (λ (s : SectionId). length (section_bytes (file_at files s.file) s.section)) id;
+        stored = text_whole files r.file r.section whole here.file_in about.within text;
+      }
+
+  -- where its field lies
+  pub address_is : (r : RecordId) → is_text (file_at files r.file) r.section ≡ true →
+      slice_index places.sections (text_index files r.file r.section) + (rela_of (file_at files r.file) r.table r.entry).offset < 2 ^ 64 →
+      field_address files plan.span places.sections r
+      ≡ slice_index places.sections (text_index files r.file r.section) + (rela_of (file_at files r.file) r.table r.entry).offset
+  address_is r text low =
+      let b = file_at files r.file in
+      let n = text_index files r.file r.section in
+      let offset = (rela_of b r.table r.entry).offset in
+      let place : section_place files plan.span places.sections r.file r.section ≡ slice_index places.sections n =
+      ap (λ (test : Bool). if test then slice_index places.sections n else data_address files plan.span r.file b r.section) text in
+      ap (λ (p : ℕ). (p + offset) % 2 ^ 64) place ∙ mod-eq_of_lt low
+
   pub field_room : (r : RecordId) (k : Kind) → IsRecord files r → text_kind files r ≡ Some k →
       HasFieldRoom files plan.span places.sections plan.text_start (text_end t (member far) - plan.text_start) r k
   field_room r k here is =
-      let b = file_at files r.file in
       let field = text_field files r k is in
       let sound = field_of_kind r k here is in
-      let about = record_about files r whole here in
+      let own = own_section r here field.text in
       let n = text_index files r.file r.section in
-      let within = text_index_within files r.file r.section here.file_in about.within field.text in
-      let id : text_section files n ≡ record { file = r.file; section = r.section } =
-      get_or_from_slice_get (text_sections files) n (record { file = r.file; section = r.section }) no_section
-      (text_index_found files r.file r.section here.file_in about.within field.text) in
-      let size = size_is files plan sites t far places whole job gives n within
-      ∙ ap (λ (s : SectionId). length (section_bytes (file_at files s.file) s.section)) id in
-      let stored = text_whole files r.file r.section whole here.file_in about.within field.text in
-      let counted : n < section_count t =
-      omega (arith, within, section_count_is files plan sites t far places whole job gives) in
-      let lies = gives.sections n counted in
-      let at = job.laid.sections n counted in
+      let lies = gives.sections n own.counted in
+      let at = job.laid.sections n own.counted in
       let start = start_is files plan sites t far places whole job gives in
       let low = text_low files plan sites t far places whole job gives in
-      let offset = (rela_of b r.table r.entry).offset in
-      let place : section_place files plan.span places.sections r.file r.section ≡ slice_index places.sections n =
-      ap (λ (test : Bool). if test then slice_index places.sections n else data_address files plan.span r.file b r.section) field.text in
+      let offset = (rela_of (file_at files r.file) r.table r.entry).offset in
       let sum : slice_index places.sections n + offset + (line_of k).width ≤ text_end t (member far) =
-      omega (arith, lies.to, at, size, stored, sound.within) in
-      let address : field_address files plan.span places.sections r ≡ slice_index places.sections n + offset =
-      ap (λ (p : ℕ). (p + offset) % 2 ^ 64) place
-      ∙ mod-eq_of_lt (omega (arith, sum, low)) in
+      omega (arith, lies.to, at, own.size, own.stored, sound.within) in
+      let address = address_is r field.text (omega (arith, sum, low)) in
       record {
         known = field.known;
         wide = wide k field.fills;
-        within = omega (arith, sound.within, stored);
+        within = omega (arith, sound.within, own.stored);
         from = omega (arith, lies.from, at, start, address);
         room = omega (arith, lies.from, at, start, address, sum);
-        rest = omega (arith, lies.from, lies.to, at, start, address, size);
+        rest = omega (arith, lies.from, lies.to, at, start, address, own.size);
       }
 
   -- text sections lie behind the start of the image, below where text ends at the latest

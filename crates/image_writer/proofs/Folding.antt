@@ -66,7 +66,8 @@ module _ (files : List (List ℕ)) (span : ℕ) (plan : LaidData) (is : IsPlan f
   slot_of distance told =
       let laid = laid_by files span in
       let both = told_by (only_loads kind (word_at files r)) (named_distance files span text (slot_records laid) r) distance told in
-      let made = mapped_by (slot_distance files span text r.file) (slot_at laid (slot_records laid) r.file (record_number laid r)) distance both.1 in
+      let made = mapped_by (slot_distance files span text r.file)
+      (slot_at laid (slot_records laid) r.file (record_number laid r)) distance both.1 in
       record {
         loads = both.0;
         slot = made.0;
@@ -95,7 +96,8 @@ module _ (files : List (List ℕ)) (span : ℕ) (plan : LaidData) (is : IsPlan f
       let there = target_there files slot goes.0 whole has.folded.within goes.1 in
       subst (λ (x : ℤ). InSigned 32 (x +ℤ pos 0x8000)) has.distance_is
       (held_reached files span plan is r.file text (record_target files slot) goes.0 here.file_in addresses texts low there
-      (target_offset files slot.file (facts_of files slot).symbol (facts_of files slot).addend goes.0 (target_told files slot goes.0 goes.1))
+      (target_offset files slot.file (facts_of files slot).symbol (facts_of files slot).addend goes.0
+      (target_told files slot goes.0 goes.1))
       goes.1 reach)
 
   -- what is so of a record, where its field holds its value or its load is left out
@@ -117,7 +119,8 @@ module _ (files : List (List ℕ)) (span : ℕ) (plan : LaidData) (is : IsPlan f
       IsRewritten load.kind load.word (number_of load own) (is_folded_load load)
   may_rewrite load own same low known checked rewritten =
       let told = toc_record files span text (slot_records (laid_by files span)) r kind in
-      let given = is_given own low known (subst (λ (l : TocRecord). is_folded_load l ≡ false → Passes (line_of kind).check own) same checked) in
+      let given = is_given own low known
+      (subst (λ (l : TocRecord). is_folded_load l ≡ false → Passes (line_of kind).check own) same checked) in
       subst (λ (l : TocRecord). IsRewritten l.kind l.word (number_of l own) (is_folded_load l)) (sym same)
       (rewritten_may told own (is_orderly files r.file) given
       (ap (λ (l : TocRecord). is_rewritten l (is_orderly files r.file)) (sym same) ∙ rewritten))

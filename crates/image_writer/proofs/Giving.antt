@@ -1,5 +1,5 @@
 -- What a layout gives, from the laws of layouts.
-use Rattle.std.proofs.Common.{ℕ, zero, suc, ◌≡◌, ◌<◌, ◌≤◌, ◌%◌, Bool, true, List, length, slice_index, ap, sym, ◌∙◌, subst, arith, None}
+use Rattle.std.proofs.Common.{ℕ, zero, suc, ◌≡◌, ◌<◌, ◌≤◌, ◌+◌, ◌%◌, Bool, true, List, length, slice_index, ap, sym, ◌∙◌, subst, arith, None}
 use Rattle.std.specs.Prelude.{pos, ◌-ℤ◌}
 use Rattle.ppc_bytes.specs.Bytes.{InSigned}
 use Rattle.stub_kinds.specs.Stubs.{BranchReaches}
@@ -11,12 +11,13 @@ use Rattle.layout_rounds.specs.declared.shape.ShapeSite.{ShapeSite}
 use Rattle.layout_rounds.specs.FarSets.{member}
 use Rattle.layout_rounds.specs.Shapes.{KeyedText, keyed_text, section_of, IsSound, IsSpan}
 use Rattle.layout_rounds.specs.Layout.{PlacedText, section_count, section_size, key_count, key_at, stub_size, sections_end, text_end, address, point_in, section_address, stub_address, IsKeyed}
-use Rattle.layout_rounds.specs.Lying.{IsInLayout}
+use Rattle.layout_rounds.specs.Lying.{AreApart, IsInLayout}
 use Rattle.layout_rounds.specs.Reach.{reaches, IsClosed}
 use Rattle.image_writer.specs.Job.{IsJob}
 use Rattle.object_set.specs.Refusals.{set_refusal}
 use Rattle.image_writer.specs.inside.Ready.{HasRooms}
-use Rattle.image_writer.proofs.Room.{LayoutGives, section_count_is, start_is, places_count, section_from, section_to, stub_ready, stub_room, call_ready, call_room}
+use Rattle.image_writer.specs.inside.Gives.{LayoutGives}
+use Rattle.image_writer.proofs.Room.{section_count_is, start_is, places_count, section_from, section_to, stub_ready, stub_room, call_ready, call_room}
 use Rattle.image_writer.proofs.FieldRooms.{field_room, text_addresses}
 use Rattle.image_writer.specs.Calls.{call_at, no_call}
 use Rattle.symbol_table.specs.Records.{records_refusal}
@@ -47,8 +48,14 @@ pub layout_gives : (files : List (List ℕ)) (plan : LaidData) (sites : List Cal
     ((t : KeyedText) (sites : List ShapeSite) (span : ℕ) (F : ℕ → Bool) → IsKeyed t → IsSpan span → IsClosed t sites span F →
     (k : ℕ) → k < key_count t → BranchReaches (key_at t k).class (F k) (stub_address t F k)
     (address t F (point_in t (key_at t k).section (key_at t k).offset))) →
+    ((t : KeyedText) (F : ℕ → Bool) (s r : ℕ) → IsKeyed t → s < r →
+    r < section_count t → section_address t F s + section_size t s ≤ section_address t F r) →
+    ((t : KeyedText) (F : ℕ → Bool) (s k : ℕ) → IsKeyed t → s < section_count t →
+    k < key_count t → AreApart (section_address t F s) (section_size t s) (stub_address t F k) (stub_size t F k)) →
+    ((t : KeyedText) (F : ℕ → Bool) (j k : ℕ) → IsKeyed t → j < k → k < key_count t →
+    AreApart (stub_address t F j) (stub_size t F j) (stub_address t F k) (stub_size t F k)) →
     LayoutGives t job.shape.sites.items job.span (member far)
-layout_gives files plan sites t far places job keyed count numbered sections fourths stubs calls branches =
+layout_gives files plan sites t far places job keyed count numbered sections fourths stubs calls branches first beside others =
     let shape = job.shape in
     let is : IsKeyed t = subst IsKeyed (sym job.keyed_is) (keyed shape job.span job.sound) in
     record {
@@ -61,9 +68,13 @@ layout_gives files plan sites t far places job keyed count numbered sections fou
       stubs = λ k lt some. stubs t (member far) k is lt some;
       calls = λ at to holds. calls job.span at to job.is_span holds;
       branches = λ k lt. branches t shape.sites.items job.span (member far) is job.is_span job.closed k lt;
+      sections_apart = λ s r less lt. first t (member far) s r is less lt;
+      stubs_beside = λ s k lt in_keys. beside t (member far) s k is lt in_keys;
+      stubs_apart = λ j k less in_keys. others t (member far) j k is less in_keys;
     }
 
-each_sound : (files : List (List ℕ)) (groups : List ℕ) (sites : List CallSite) → set_refusal files ≡ None → records_refusal files ≡ None →
+pub each_sound : (files : List (List ℕ)) (groups : List ℕ) (sites : List CallSite) → set_refusal files ≡ None →
+    records_refusal files ≡ None →
     sites ≡ call_sites files groups → (i : ℕ) → i < length sites → IsSoundSite files groups (call_at sites i)
 each_sound files groups sites whole none are i lt =
     subst (λ (l : List CallSite). IsSoundSite files groups (call_at l i)) (sym are)

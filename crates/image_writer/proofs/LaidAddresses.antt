@@ -36,7 +36,8 @@ module _ (files : List (List ℕ)) (span : ℕ) (placed : IsPlacedData files spa
   sections_low file (suc n) within most =
       All-append IsLow (items_in (address_walk files span) file (file_at files file) n)
       (section_address files span file (file_at files file) n ∷ []) (sections_low file n within (omega arith))
-      (All-cons IsLow (section_address files span file (file_at files file) n) [] (placed.pieces (Section file n) (within, omega arith)) (All-nil IsLow))
+      (All-cons IsLow (section_address files span file (file_at files file) n) []
+      (placed.pieces (Section file n) (within, omega arith)) (All-nil IsLow))
 
   files_low : (n : ℕ) → n ≤ length files → All IsLow (items_before (address_walk files span) files n)
   files_low zero most = All-nil IsLow
@@ -74,5 +75,6 @@ module _ (files : List (List ℕ)) (span : ℕ) (placed : IsPlacedData files spa
         bases = bases_count files plan own;
         pieces = ap (λ (l : List ℕ). length l) is.pieces ∙ pieces_count;
         low_bases = bases_low files plan own there;
-        low_pieces = λ k. subst (λ (l : List ℕ). slice_index l k < 0x60000000) (sym is.pieces) (low_at (piece_addresses files span) pieces_low k);
+        low_pieces = λ k. subst (λ (l : List ℕ). slice_index l k < 0x60000000) (sym is.pieces)
+            (low_at (piece_addresses files span) pieces_low k);
       }

@@ -23,7 +23,7 @@ use Rattle.pcrel_rewrite.specs.Words.{ArePairWords}
 use Rattle.pcrel_rewrite.specs.laws.Pairs.{one_pair_at}
 use Rattle.image_writer.specs.declared.got_loads.LoadWords.{LoadWords}
 use Rattle.image_writer.specs.GotLoads.{offset_of, load_distance, pair_distance, pair_load, near_load, sum_by, load_by, got_load, rewritten_load}
-use Rattle.image_writer.specs.Rewriting.{rewriting_of, tail_at}
+use Rattle.image_writer.specs.Rewriting.{Rewriting, rewriting_of, tail_at}
 use Rattle.image_writer.specs.inside.Loads.{IsAccessAt, paired_by, paired_load, sum_of}
 use Rattle.image_writer.proofs.Finding.{some_first, none_first, found_is}
 
@@ -43,7 +43,8 @@ module _ (pairs : List TextPair) (section offset : ℕ) where
   itself : (k : ℕ) (d : TextPair) → k < length pairs → Contains pairs (slice_index_or pairs k d)
   itself k d within = (k, within, get_or_default pairs k (slice_index_or pairs k d) d within)
 
-  none_case : (p : TextPair) (b : Bool) → heads p ≡ b → Contains pairs p → ((tail : ℕ) → ¬ Contains pairs (text_pair section offset tail)) → b ≡ false
+  none_case : (p : TextPair) (b : Bool) → heads p ≡ b → Contains pairs p →
+      ((tail : ℕ) → ¬ Contains pairs (text_pair section offset tail)) → b ≡ false
   none_case p false is there none = refl
   none_case p true is there none = absurd (none p.tail (subst (Contains pairs) (sym (head_case p is)) there))
 
@@ -123,14 +124,17 @@ module _ (files : List (List ℕ)) (span : ℕ) (text : List ℕ) (r : RecordId)
       none_by (is_signed 34 (pair_distance files span text r tail)) (pair_load files span text r tail) _ is
 
   -- the same by what was read of the record
-  module _ (pairs : List TextPair) (section offset : ℕ) (distance : ℤ) (bytes : List ℕ) (index : section ≡ text_index files r.file r.section)
+  module _ (pairs : List TextPair) (section offset : ℕ) (distance : ℤ) (bytes : List ℕ)
+      (index : section ≡ text_index files r.file r.section)
       (at : offset ≡ offset_of files r) (far : distance ≡ load_distance files span text r) (own : bytes ≡ own_bytes) where
-    paired_same : paired_load pairs section offset distance bytes ≡ paired (tail_at pairs (text_index files r.file r.section) (offset_of files r))
+    paired_same : paired_load pairs section offset distance bytes
+        ≡ paired (tail_at pairs (text_index files r.file r.section) (offset_of files r))
     paired_same =
         ap (λ (n : ℕ). paired_load pairs n offset distance bytes) index
         ∙ ap (λ (n : ℕ). paired_load pairs (text_index files r.file r.section) n distance bytes) at
         ∙ ap (λ (d : ℤ). paired_load pairs (text_index files r.file r.section) (offset_of files r) d bytes) far
-        ∙ ap (λ (b : List ℕ). paired_load pairs (text_index files r.file r.section) (offset_of files r) (load_distance files span text r) b) own
+        ∙ ap (λ (b : List ℕ). paired_load pairs (text_index files r.file r.section) (offset_of files r)
+        (load_distance files span text r) b) own
 
     pub got_pair : (load : LoadWords) → Some load ≡ paired_load pairs section offset distance bytes →
         Some load ≡ got_load files span text (rewriting_of files span pairs) r
@@ -174,15 +178,15 @@ module _ (files : List (List ℕ)) (span : ℕ) (text : List ℕ) (r : RecordId)
       pair_nop (is_signed 34 (pair_distance files span text r tail)) tail load is there.behind there.within
 
   -- what is rewritten is a load
-  record IsLoad (kind : Kind) (pairs : List TextPair) (load : LoadWords) : Type 0 where
-    kind_is : kind ≡ GotPcrel34
-    load_is : got_load files span text (rewriting_of files span pairs) r ≡ Some load
+  pub record IsLoad (kind : Kind) (w : Rewriting) (load : LoadWords) : Type 0 where
+    pub kind_is : kind ≡ GotPcrel34
+    pub load_is : got_load files span text w r ≡ Some load
 
-  load_case : (pairs : List TextPair) (kind : Kind) (load : LoadWords) →
-      rewritten_load files span text (rewriting_of files span pairs) r kind ≡ Some load → IsLoad kind pairs load
+  pub load_case : (w : Rewriting) (kind : Kind) (load : LoadWords) → rewritten_load files span text w r kind ≡ Some load →
+      IsLoad kind w load
   unfolding rewritten_load
-  load_case pairs kind load is =
-      elim kind as (λ k. rewritten_load files span text (rewriting_of files span pairs) r k ≡ Some load → IsLoad k pairs load) [
+  load_case w kind load is =
+      elim kind as (λ k. rewritten_load files span text w r k ≡ Some load → IsLoad k w load) [
         | GotPcrel34 ↦ λ same. record { kind_is = refl; load_is = same }
         | _ ↦ λ same. cc
       ] is
@@ -196,7 +200,7 @@ module _ (files : List (List ℕ)) (span : ℕ) (text : List ℕ) (r : RecordId)
       r.section < e_shnum (file_at files r.file) → is_text (file_at files r.file) r.section ≡ true →
       Some load ≡ rewritten_load files span text (rewriting_of files span pairs) r kind → HasLoadRoom kind load
   load_room pairs kind load are inside within in_text is =
-      let case = load_case pairs kind load (sym is) in
+      let case = load_case (rewriting_of files span pairs) kind load (sym is) in
       record {
         width = ap (λ (k : Kind). (line_of k).width) case.kind_is;
         nop = by_nop (tail_at pairs (text_index files r.file r.section) (offset_of files r)) load case.load_is

@@ -84,7 +84,8 @@ module _ (files : List (List ℕ)) (span : ℕ) (plan : LaidData) (is : IsPlan f
   slot_record : (s : RecordId) → IsRecord files s → fills_slot files s ≡ true → IsSlotRecord s
   slot_record s here fills =
       let b = file_at files s.file in
-      let first = and_parts (is_address (kind_of files s) && is_toc_sort (sort_of b s.section)) ((facts_of files s).offset % 8 == 0) fills in
+      let first = and_parts (is_address (kind_of files s) && is_toc_sort (sort_of b s.section))
+      ((facts_of files s).offset % 8 == 0) fills in
       let second = and_parts (is_address (kind_of files s)) (is_toc_sort (sort_of b s.section)) first.0 in
       let known = address_kind (kind_of files s) second.0 in
       record {
@@ -136,7 +137,8 @@ module _ (files : List (List ℕ)) (span : ℕ) (plan : LaidData) (is : IsPlan f
       let start : (field_of b s).start ≡ (facts_of files r).offset =
       ap (λ (f : ℕ). (rela_of (file_at files f) s.table s.entry).offset) (sym file) ∙ offset in
       let there : meets r.section (facts_of files r).offset 8 (field_of b s) ≡ true = grind (arith, nat_tests, section, kind, start) in
-      let entry = same_entry s r (lone_case (is_same_record s r) (meets r.section (facts_of files r).offset 8 (field_of b s)) there fails) in
+      let entry = same_entry s r (lone_case (is_same_record s r)
+      (meets r.section (facts_of files r).offset 8 (field_of b s)) there fails) in
       same_record s r file entry.0 entry.1 section
 
   -- the slot of a file that begins at a number
@@ -182,7 +184,8 @@ module _ (files : List (List ℕ)) (span : ℕ) (plan : LaidData) (is : IsPlan f
       }
 
   pub slot_found : (s : RecordId) (file number : ℕ) → IsRecord files s → fills_foldable (laid_by files span) s ≡ true → s.file ≡ file →
-      slot_address (laid_by files span) s ≡ number → slot_at (laid_by files span) (slot_records (laid_by files span)) file (Some number) ≡ Some s
+      slot_address (laid_by files span) s ≡ number →
+      slot_at (laid_by files span) (slot_records (laid_by files span)) file (Some number) ≡ Some s
   slot_found s file number within folds same begins =
       let laid = laid_by files span in
       let test : RecordId → Bool = λ r. r.file == file && slot_address laid r == number in
@@ -234,7 +237,8 @@ module _ (files : List (List ℕ)) (span : ℕ) (plan : LaidData) (is : IsPlan f
 
   -- and one where one does
   pub the_slot : (text : List ℕ) (f : FoldedSlots) (r : RecordId) (target : Target) (number : ℕ) (s : Slot) →
-      AreFolds (laid_by files span) f → record_target files r ≡ Some target → IsTargetOf files target → Some number ≡ address_in plan target →
+      AreFolds (laid_by files span) f → record_target files r ≡ Some target → IsTargetOf files target →
+      Some number ≡ address_in plan target →
       IsNamed f r.file number (Some s) →
       named_distance files span text (slot_records (laid_by files span)) r ≡ Some (slot_distance files span text r.file s.id)
   the_slot text f r target number s are goes there read named =

@@ -1,9 +1,10 @@
 -- One more patch.
 use Rattle.std.proofs.Common.{ℕ, zero, suc, add-one, ◌≡◌, ◌+◌, ◌/◌, take, List, [], ◌∷◌, ◌++◌, map, ap, sym, ◌∙◌, refl, arith}
-use Rattle.std.specs.List.{range_with_len, flat_map}
+use Rattle.std.specs.List.{range_with_len, flat_map, sum_by}
 use Rattle.std.proofs.lemmas.List.{append-nil}
 use Rattle.std.proofs.lemmas.List.Concat.{flat_map-append}
 use Rattle.std.proofs.lemmas.List.FromFn.{map-range_with_len_more}
+use Rattle.std.proofs.lemmas.List.Sums.{sum_by-append}
 use Rattle.placed_bytes.specs.Patches.{Patch, patched, all_patched}
 use Rattle.image_writer.specs.Text.{word_patches}
 
@@ -39,6 +40,12 @@ pub range_next : (n : ℕ) → range_with_len 0 (n + 1) ≡ range_with_len 0 n +
 range_next n =
     let e : 0 + n ≡ n = omega arith in
     ap (range_with_len 0) (add-one n) ∙ range_push 0 n ∙ ap (λ (m : ℕ). range_with_len 0 n ++ m ∷ []) e
+
+-- a sum over numbers, and one more
+pub sum_next : (f : ℕ → ℕ) (n : ℕ) → sum_by f (range_with_len 0 (n + 1)) ≡ sum_by f (range_with_len 0 n) + f n
+sum_next f n =
+    let all = ap (sum_by f) (range_next n) ∙ sum_by-append f (range_with_len 0 n) (n ∷ []) in
+    omega (arith, all)
 
 -- several patches for each number
 pub next_patches : (f : ℕ → List Patch) (b text : List ℕ) (n : ℕ) → text ≡ all_patched b (flat_map f (range_with_len 0 n)) →

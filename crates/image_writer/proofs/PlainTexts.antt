@@ -53,7 +53,8 @@ no_fold = elim [
 ]
 
 module _ (files : List (List ℕ)) (span : ℕ) (text : List ℕ) (r : RecordId) where
-  none_named : (number : Option ℕ) → option_map (slot_distance files span text r.file) (slot_at (laid_by files span) [] r.file number) ≡ None
+  none_named : (number : Option ℕ) →
+      option_map (slot_distance files span text r.file) (slot_at (laid_by files span) [] r.file number) ≡ None
   none_named None = refl
   none_named (Some number) = refl
 
@@ -64,7 +65,8 @@ module _ (files : List (List ℕ)) (span : ℕ) (text : List ℕ) (r : RecordId)
   no_slot : (kind : Kind) → (toc_record files span text [] r kind).slot ≡ None
   unfolding toc_record
   no_slot kind =
-      none_loaded (only_loads kind (word_at files r)) (named_distance files span text [] r) (none_named (record_number (laid_by files span) r))
+      none_loaded (only_loads kind (word_at files r)) (named_distance files span text [] r)
+      (none_named (record_number (laid_by files span) r))
 
   not_folded : (kind : Kind) → is_folded_load (toc_record files span text [] r kind) ≡ false
   unfolding toc_record
@@ -83,7 +85,8 @@ module _ (files : List (List ℕ)) (span : ℕ) (text : List ℕ) (r : RecordId)
   plain_case start None = refl
   plain_case start (Some kind) =
       ap (λ (b : Bool). if b then folded_patch files span text start r (toc_record files span text [] r kind)
-      else load_or_field files span text no_rewriting start r kind (rewritten_load files span text no_rewriting r kind)) (not_rewritten kind)
+      else load_or_field files span text no_rewriting start r kind (rewritten_load files span text no_rewriting r kind))
+      (not_rewritten kind)
       ∙ ap (load_or_field files span text no_rewriting start r kind) (no_load kind)
 
   overflow_case : (o : Option Kind) → overflow_by files span text no_rewriting r o ≡ kind_overflow files span text r o
@@ -142,7 +145,8 @@ module _ (files : List (List ℕ)) (a b : List TextPair) (are : ArePairs files a
 
   module _ (span : ℕ) (text : List ℕ) (r : RecordId) where
     same_load : (kind : Kind) →
-        rewritten_load files span text (rewriting_of files span a) r kind ≡ rewritten_load files span text (rewriting_of files span b) r kind
+        rewritten_load files span text (rewriting_of files span a) r kind
+        ≡ rewritten_load files span text (rewriting_of files span b) r kind
     unfolding rewritten_load
     same_load = elim [
       | GotPcrel34 ↦ ap (load_by files span text true r) (same_tail (text_index files r.file r.section) (offset_of files r))

@@ -22,14 +22,15 @@ within_case true rest a i n more found =
 within_case false rest a i n more found = let less = more found in omega (arith, less)
 
 -- what is found among numbers is one of them
-find_within : (p : ℕ → Bool) (n a i : ℕ) → find p (range_with_len a n) ≡ Some i → i < a + n
+pub find_within : (p : ℕ → Bool) (n a i : ℕ) → find p (range_with_len a n) ≡ Some i → i < a + n
 find_within p zero a i found = cc
 find_within p (suc n) a i found = within_case (p a) (find p (range_with_len (a + 1) n)) a i n (find_within p n (a + 1) i) found
 
 number_within : (shape : Shape) (span i : ℕ) (F : ℕ → Bool) → IsFarSet shape span F → IsRefused shape span (StubReach i) →
     i < length shape.sites.items
 number_within shape span i F far refused =
-    let within = find_within (is_out (keyed_text shape span) shape.sites.items F span) (length shape.sites.items) 0 i (refused F far).first in
+    let within = find_within (is_out (keyed_text shape span) shape.sites.items F span) (length shape.sites.items) 0 i
+    (refused F far).first in
     omega (arith, within)
 
 pub call_within : (sites : List CallSite) (shape : Shape) (span i : ℕ) → shape.sites.items ≡ shape_sites sites →

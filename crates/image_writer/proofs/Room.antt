@@ -21,12 +21,11 @@ use Rattle.elf64_exec.specs.declared.memory_map.TheConstants.{PAGE}
 use Rattle.toc_groups.specs.Data.{data_end, data_refusal}
 use Rattle.layout_rounds.specs.FarSets.{member}
 use Rattle.layout_rounds.specs.Shapes.{KeyedText, aligned, section_of, site_of, IsInText}
-use Rattle.layout_rounds.specs.Layout.{PlacedText, section_count, section_size, key_count, key_at, group_at, stub_size, text_end, address, point_in, section_address, stub_address, IsKeyed}
-use Rattle.layout_rounds.specs.Reach.{reaches}
-use Rattle.layout_rounds.specs.Lying.{IsInLayout}
+use Rattle.layout_rounds.specs.Layout.{PlacedText, section_count, section_size, key_count, key_at, group_at, stub_size, text_end, address, point_in, section_address, stub_address}
 use Rattle.placed_bytes.specs.Patches.{end_of}
 use Rattle.image_writer.specs.JobShape.{section_shape, shape_sections, site_shape}
 use Rattle.image_writer.specs.Text.{text_section, section_patch, place_of, caller_base}
+use Rattle.image_writer.specs.inside.Gives.{LayoutGives}
 use Rattle.image_writer.specs.inside.Ready.{HasStubRoom, IsStubReady, IsBranchReady, BranchReadyBy, HasCallRoom, IsCallReady}
 use Rattle.image_writer.specs.Calls.{call_at, call_number, branch_address, call_address, displacement_by}
 use Rattle.layout_rounds.specs.Settled.{branch_target, call_address as layout_call}
@@ -34,19 +33,6 @@ use Rattle.call_sites.specs.laws.SiteFacts.{IsSoundSite}
 use Rattle.image_writer.specs.Job.{IsJob}
 use Rattle.image_writer.proofs.Calling.{shape_nth}
 use Rattle.image_writer.proofs.Shaping.{is_section, shaped}
-
--- what the layout gives: its text is keyed, sections and stubs lie in the text, and branches reach
-pub record LayoutGives (t : KeyedText) (sites : List ShapeSite) (span : ℕ) (F : ℕ → Bool) : Type 0 where
-  pub keyed : IsKeyed t
-  pub count : length t.numbers ≡ length sites
-  pub numbered : (i : ℕ) → i < length sites → slice_index t.numbers i < key_count t
-  pub sections : (s : ℕ) → s < section_count t →
-      IsInLayout t F (section_address t F s) (section_size t s) (section_of t.sections s).align
-  pub instructions : (s : ℕ) → s < section_count t → section_address t F s % 4 ≡ 0
-  pub stubs : (k : ℕ) → k < key_count t → 0 < stub_size t F k → IsInLayout t F (stub_address t F k) (stub_size t F k) 16
-  pub calls : (at to : ℕ) → reaches span at to ≡ true → InSigned 26 (pos to -ℤ pos at)
-  pub branches : (k : ℕ) → k < key_count t → BranchReaches (key_at t k).class (F k) (stub_address t F k)
-      (address t F (point_in t (key_at t k).section (key_at t k).offset))
 
 -- data that isn't refused ends at 0x40000000, and text starts no later
 not_past : (files : List (List ℕ)) (span : ℕ) → data_refusal files span ≡ None → data_end files span ≤ 0x40000000
@@ -223,7 +209,7 @@ module _ (files : List (List ℕ)) (plan : LaidData) (sites : List CallSite) (t 
             whole = stands.whole;
           }
 
-      call_low : IsLow (call_at sites i).section (call_at sites i).offset
+      pub call_low : IsLow (call_at sites i).section (call_at sites i).offset
       call_low = instruction_low (call_at sites i).section (call_at sites i).offset call_place
 
       size_of_call : section_size t (call_at sites i).section
@@ -279,3 +265,20 @@ module _ (files : List (List ℕ)) (plan : LaidData) (sites : List CallSite) (t 
             branch = class.0;
             reaches = class.1;
           }
+
+      -- where it branches is an instruction
+      whole_case : (k : ℕ) (some : Bool) → nat_lt 0 (stub_size t (member far) k) ≡ some → k < key_count t →
+          (if some then slice_index places.stubs k else place_of files plan.bases t (member far) places k) % 4 ≡ 0
+      whole_case k true is key =
+          let lies = gives.stubs k key (grind (arith, nat_tests, is)) in
+          omega (arith, job.laid.stubs k key, lies.whole)
+      whole_case k false is key = (key_place k key).fourth
+
+      pub branch_whole : (class : Class) → (call_at sites i).class ≡ Some class →
+          branch_address files plan.bases t (member far) places (call_number sites i) % 4 ≡ 0
+      branch_whole class is =
+          let n = call_number sites i in
+          let nth = shape_nth sites i class lt is in
+          let there : n < length job.shape.sites.items = subst (λ (l : List ShapeSite). n < length l) (sym job.shape_is.sites_are) nth.0 in
+          let k = slice_index t.numbers n in
+          whole_case k (nat_lt 0 (stub_size t (member far) k)) refl (gives.numbered n there)

@@ -26,7 +26,8 @@ fit_case sections None x rest here more i lt = more i lt
 fit_case sections (Some class) x rest here more zero lt = here class refl
 fit_case sections (Some class) x rest here more (suc i) lt = more i (omega arith)
 
-pub sites_fit : (sections : List ShapeSection) (sites : List CallSite) → ((i : ℕ) → i < length sites → IsFitCall sections (call_at sites i)) →
+pub sites_fit : (sections : List ShapeSection) (sites : List CallSite) →
+    ((i : ℕ) → i < length sites → IsFitCall sections (call_at sites i)) →
     (i : ℕ) → i < length (shape_sites sites) → IsFit sections (site_of (shape_sites sites) i)
 sites_fit sections [] each i lt = absurd (omega arith)
 sites_fit sections (x ∷ xs) each i lt =

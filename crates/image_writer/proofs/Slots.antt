@@ -66,7 +66,8 @@ section_offset files file at i Writable t low is = let same : Data (Section file
 section_offset files file at i ReadOnly t low is = let same : Data (Section file i) (cast_signed w64 at) ≡ t = cc in subst IsOffset same tt
 section_offset files file at i Dropped t low is = cc
 
-index_offset : (files : List (List ℕ)) (file at : ℕ) (o : Option ℕ) (t : Target) → at < 2 ^ 64 → index_target files file at o ≡ Some t → IsOffset t
+index_offset : (files : List (List ℕ)) (file at : ℕ) (o : Option ℕ) (t : Target) → at < 2 ^ 64 →
+    index_target files file at o ≡ Some t → IsOffset t
 index_offset files file at None t low is = cc
 index_offset files file at (Some i) t low is = section_offset files file at i (sort_of (file_at files file) i) t low is
 
@@ -159,14 +160,16 @@ module _ (files : List (List ℕ)) (span : ℕ) (plan : LaidData) (is : IsPlan f
   reach_of : (n base : ℕ) → n ≤ 0x70000000 → base < 0x60000000 → InSigned 32 ((pos n -ℤ pos base) +ℤ pos 0x8000)
   reach_of n base below low = record { low = omega (arith, ints, below, low); high = omega (arith, ints, below, low) }
 
-  code_case : (section offset base : ℕ) (text : List ℕ) → AreTextAddresses text → section < length text → offset < 2 ^ 64 → base < 0x60000000 →
+  code_case : (section offset base : ℕ) (text : List ℕ) → AreTextAddresses text → section < length text → offset < 2 ^ 64 →
+      base < 0x60000000 →
       reaches_offset (cast_signed w64 offset) ≡ true →
       InSigned 32 ((pos ((slice_index text section + offset) % 2 ^ 64) -ℤ pos base) +ℤ pos 0x8000)
   code_case section offset base text addresses within fits low reach =
       let parts = and_parts (not (int_lt (cast_signed w64 offset) (neg_ℤ (pos 0x10000000))))
       (not (int_lt (pos 0x10000000) (cast_signed w64 offset))) reach in
       reach_of ((slice_index text section + offset) % 2 ^ 64) base
-      (code_low (slice_index text section) offset (cast_signed w64 offset) refl fits (addresses.from section within) (addresses.low section within)
+      (code_low (slice_index text section) offset (cast_signed w64 offset) refl fits (addresses.from section within)
+      (addresses.low section within)
       (not_true (int_lt (cast_signed w64 offset) (neg_ℤ (pos 0x10000000))) parts.0)
       (not_true (int_lt (pos 0x10000000) (cast_signed w64 offset)) parts.1)) low
 
@@ -204,19 +207,22 @@ module _ (files : List (List ℕ)) (span : ℕ) (plan : LaidData) (is : IsPlan f
       number_case (plus_addend 0 addend) (base_of files span file) reach
 
   pub held_reached : (file : ℕ) (text : List ℕ) (o : Option Target) (target : Target) → file < length files → AreTextAddresses text →
-      length text ≡ length (text_sections files) → base_of files span file < 0x60000000 → IsTargetOf files target → IsOffset target → o ≡ Some target →
+      length text ≡ length (text_sections files) → base_of files span file < 0x60000000 → IsTargetOf files target →
+      IsOffset target → o ≡ Some target →
       reaches (laid_by files span) (laid_base (laid_by files span) file) o ≡ true →
       InSigned 32 ((pos (held_by files span text o) -ℤ pos (base_of files span file)) +ℤ pos 0x8000)
   held_reached file text o target inside addresses texts low within fits some reach =
       let there : reaches (laid_by files span) (base_of files span file) (Some target) ≡ true =
       ap (λ (p : Option Target). reaches (laid_by files span) (base_of files span file) p) (sym some)
       ∙ ap (λ (b : ℕ). reaches (laid_by files span) b o) (sym (laid_is_base file inside)) ∙ reach in
-      subst (λ (p : Option Target). InSigned 32 ((pos (held_by files span text p) -ℤ pos (base_of files span file)) +ℤ pos 0x8000)) (sym some)
+      subst (λ (p : Option Target).
+      InSigned 32 ((pos (held_by files span text p) -ℤ pos (base_of files span file)) +ℤ pos 0x8000)) (sym some)
       (target_reached file text target inside addresses texts low within fits there)
 
 -- ---- words of orderly files
 
-unsuited_case : (o : Option Kind) (kind : Kind) (word : ℕ) (s : Bool) → o ≡ Some kind → suits kind word ≡ s → is_unsuited o word ≡ false → s ≡ true
+unsuited_case : (o : Option Kind) (kind : Kind) (word : ℕ) (s : Bool) → o ≡ Some kind → suits kind word ≡ s →
+    is_unsuited o word ≡ false → s ≡ true
 unsuited_case o kind word true some is none = refl
 unsuited_case o kind word false some is none =
     let unsuited : is_unsuited o word ≡ true = ap (λ (p : Option Kind). is_unsuited p word) some ∙ ap not is in
@@ -263,7 +269,8 @@ target_told files r t is = target_case files r (kind_of files r) t is
 pub target_there : (files : List (List ℕ)) (r : RecordId) (t : Target) → set_refusal files ≡ None → IsRecord files r →
     record_target files r ≡ Some t → IsTargetOf files t
 target_there files r t whole here is =
-    let known = symbol_in_range (file_at files r.file) r.table r.entry (whole_file files r.file whole here.file_in).fault here.table_in here.within in
+    let known = symbol_in_range (file_at files r.file) r.table r.entry
+    (whole_file files r.file whole here.file_in).fault here.table_in here.within in
     target_in files r.file (facts_of files r).symbol (facts_of files r).addend t whole here.file_in known (target_told files r t is)
 
 -- a record of a kind that goes somewhere does

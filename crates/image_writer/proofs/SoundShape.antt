@@ -40,7 +40,8 @@ module _ (files : List (List ℕ)) (groups : List ℕ) (whole : set_refusal file
   call_fits i lt class is =
       let sound = site_sound_at files groups whole none i no_call lt in
       record {
-        from = in_shape files groups (call_at (call_sites files groups) i).section (call_at (call_sites files groups) i).offset sound.stands;
+        from = in_shape files groups (call_at (call_sites files groups) i).section
+            (call_at (call_sites files groups) i).offset sound.stands;
         to = in_shape files groups (call_at (call_sites files groups) i).to_section (call_at (call_sites files groups) i).to_offset
             (sound.goes class is);
       }
@@ -51,7 +52,8 @@ module _ (files : List (List ℕ)) (groups : List ℕ) (whole : set_refusal file
       (sites_ordered_at files groups whole none i no_call (omega arith))
 
 pub shape_sound : (files : List (List ℕ)) (plan : LaidData) (sites : List CallSite) (shape : Shape) → set_refusal files ≡ None →
-    HasCalls files plan sites → IsPlacedData files plan.span → IsShapeOf files plan sites shape → AreSound shape.sections.items → IsSound shape
+    HasCalls files plan sites → IsPlacedData files plan.span → IsShapeOf files plan sites shape →
+    AreSound shape.sections.items → IsSound shape
 shape_sound files plan sites shape whole has placed is sections =
     let none = has.records in
     let start : shape.start ≡ plan.text_start = is.start in
@@ -62,7 +64,8 @@ shape_sound files plan sites shape whole has placed is sections =
     let fewer = sites_few sites in
     let count = ap (λ (l : List ShapeSite). length l) is.sites_are in
     let fit : (i : ℕ) → i < length (shape_sites sites) → IsFit (shape_sections files plan.groups) (site_of (shape_sites sites) i) =
-    subst (λ (l : List CallSite). (i : ℕ) → i < length (shape_sites l) → IsFit (shape_sections files plan.groups) (site_of (shape_sites l) i))
+    subst (λ (l : List CallSite). (i : ℕ) → i < length (shape_sites l) →
+    IsFit (shape_sections files plan.groups) (site_of (shape_sites l) i))
     (sym has.sites_are) (sites_fit (shape_sections files plan.groups) (call_sites files plan.groups)
     (call_fits files plan.groups whole none)) in
     let fits : (i : ℕ) → i < length shape.sites.items → IsFit shape.sections.items (site_of shape.sites.items i) =

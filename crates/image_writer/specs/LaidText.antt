@@ -1,5 +1,5 @@
 -- The text of a job as it is laid out, and why it can't be (stubs and the reach of calls: ELFv2 ABI, "Function Call").
-use Rattle.std.specs.Prelude.{ℕ, ◌≡◌, ◌<◌, ◌^◌, Bool, None, List, length}
+use Rattle.std.specs.Prelude.{ℕ, ◌≡◌, ◌≢◌, ◌<◌, ◌^◌, Bool, None, List, length}
 use Rattle.object_set.specs.declared.refusal.Site.{Site}
 use Rattle.object_set.specs.declared.refusal.Refusal.{Refusal}
 use Rattle.symbol_table.specs.Records.{records_refusal}
@@ -67,3 +67,14 @@ IsTextRefusal files plan sites span TextTooBig = IsRefusedJob files plan sites s
 IsTextRefusal files plan sites span (StubReach site) = IsFirstOut files plan sites span site
 IsTextRefusal files plan sites span Memory = Unit {0}
 IsTextRefusal files plan sites span r = ⊥
+
+-- a text is laid out
+pub record HasTextLayout (files : List (List ℕ)) (plan : LaidData) (sites : List CallSite) (span : ℕ) : Type 0 where
+  pub text : TextLayout
+  pub is : IsTextLayout files plan sites span text
+
+-- or there is a reason in it why it can't be
+pub record HasTextRefusal (files : List (List ℕ)) (plan : LaidData) (sites : List CallSite) (span : ℕ) : Type 0 where
+  pub refusal : Refusal
+  pub is : IsTextRefusal files plan sites span refusal
+  pub stated : refusal ≢ Memory

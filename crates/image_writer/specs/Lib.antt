@@ -1,6 +1,7 @@
 pub mod JobShape
 pub mod Text
 pub mod Calls
+pub mod Branches
 pub mod Fields
 pub mod Rewriting
 pub mod TocLoads
@@ -8,6 +9,7 @@ pub mod GotLoads
 pub mod Records
 pub mod Image
 pub mod Job
+pub mod Places
 pub mod LaidText
 pub mod inside
 pub mod Plan

@@ -1,3 +1,4 @@
 -- Words of private contracts.
+pub mod Gives
 pub mod Loads
 pub mod Ready

@@ -8,6 +8,7 @@ mod executable;
 mod fields;
 mod got_loads;
 mod layout;
+mod places;
 mod ready;
 mod records;
 mod rewriting;
@@ -20,6 +21,10 @@ mod toc_loads;
 pub use addresses::plans_have_addresses;
 pub use executable::segments;
 pub use layout::lay_text;
+pub use places::{
+    branches_reach, laid_texts_are_of_jobs, pairs_are_in_reach, patches_are_apart,
+    places_tell_a_text, text_stands_place_by_place, texts_are_laid_out_or_refused,
+};
 pub use ready::text_is_placed;
 pub use rewriting::{texts_are_one, texts_may_stay_plain};
 pub use shape::{call_numbered, shape_of};

@@ -1,15 +1,34 @@
 // What a layout gives to those who write its text.
-ghost use Rattle.std.specs.Prelude.{◌≡◌, ◌<◌, ℕ, length, slice_index};
+ghost use Rattle.std.specs.Prelude.{◌≡◌, ◌<◌, ℕ, Bool, List, length, slice_index};
+ghost use Rattle.call_sites.specs.declared.site.CallSite.{CallSite};
+ghost use Rattle.layout_rounds.specs.FarSets.{member};
+ghost use Rattle.layout_rounds.specs.Layout.{PlacedText};
+ghost use Rattle.layout_rounds.specs.Shapes.{KeyedText};
 ghost use Rattle.toc_groups.specs.Contents.{AreOfFiles};
+ghost use Rattle.toc_groups.specs.Plans.{LaidData};
 ghost use Rattle.image_writer.specs.Job.{IsJob, IsPlacedText};
+ghost use Rattle.image_writer.specs.inside.Gives.{LayoutGives};
 ghost use Rattle.image_writer.specs.inside.Ready.{HasRooms};
 
 use call_sites::CallSite;
 use layout_rounds::{
-    Settled, branches_stay_in_reach, calls_have_keys, sections_and_stubs_lie_in_text,
+    Settled, branches_stay_in_reach, calls_have_keys, sections_and_stubs_are_apart,
+    sections_and_stubs_lie_in_text,
 };
 use symbol_table::Resolved;
 use toc_groups::{DataPlan, data_is_placed};
+
+/// The layout of a job keeps what the laws say of layouts. It does nothing when it runs.
+pub fn layouts_give()
+    ensures { (files : List (List ℕ)) (plan : LaidData) (sites : List CallSite) (t : KeyedText)
+        (far : List Bool) (p : PlacedText) → (job : IsJob files plan sites t far p) →
+        LayoutGives t job.shape.sites.items job.span (member far) }
+{
+    calls_have_keys();
+    sections_and_stubs_lie_in_text();
+    sections_and_stubs_are_apart();
+    branches_stay_in_reach();
+}
 
 /// In the layout of a job sections, stubs, calls and fields have room in the text, and branches reach. It does nothing when it runs.
 pub fn parts_have_room(res: &Resolved, plan: &DataPlan, sites: &[CallSite], settled: &Settled)
@@ -22,9 +41,7 @@ pub fn parts_have_room(res: &Resolved, plan: &DataPlan, sites: &[CallSite], sett
 {
     // none of the files is refused
     let _files = res.set().file_count();
-    calls_have_keys();
-    sections_and_stubs_lie_in_text();
-    branches_stay_in_reach();
+    layouts_give();
     data_is_placed();
 }
 

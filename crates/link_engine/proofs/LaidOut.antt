@@ -40,7 +40,8 @@ pub record IsLaidJob (files : List (List ℕ)) (options : LinkOptions) (plan : L
   pub pairs_are : ArePairs files pairs
 
 -- from what each stage gives, where the options are read
-pub laid_job : (resolved : ResolvedFiles) (options : LinkOptions) (branch toc : ℕ) (plan : LaidData) (groups : List ℕ) (sites calls : List CallSite)
+pub laid_job : (resolved : ResolvedFiles) (options : LinkOptions) (branch toc : ℕ) (plan : LaidData) (groups : List ℕ)
+    (sites calls : List CallSite)
     (text : TextLayout) (pairs : List TextPair) → branch ≡ options.branch_span → toc ≡ options.toc_span → IsResolved resolved options →
     IsPlan resolved.files toc plan →
     groups ≡ plan.groups → sites_refusal resolved.files groups ≡ None → sites ≡ call_sites resolved.files groups → calls ≡ sites →

@@ -3,3 +3,4 @@ pub mod Overflows
 pub mod Entered
 pub mod LaidOut
 pub mod LoadedImages
+pub mod TextStands

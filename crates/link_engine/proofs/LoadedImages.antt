@@ -1,9 +1,8 @@
 -- An image that is written of a job's segments loads as these.
-use Rattle.std.proofs.Common.{ℕ, ◌≡◌, ◌<◌, ◌^◌, inl, inr, List, [], ◌∷◌, ◌++◌, ap, sym, ◌∙◌, subst, arith}
+use Rattle.std.proofs.Common.{ℕ, ◌≡◌, ◌<◌, ◌^◌, inl, inr, List, ap, sym, ◌∙◌, subst, arith}
 use Rattle.std.specs.List.{All}
 use Rattle.std.proofs.lemmas.List.Elements.{All-push}
 use Rattle.elf64_exec.specs.declared.layout.Segment.{Segment}
-use Rattle.elf64_exec.specs.declared.memory_map.TheConstants.{READ_ONLY, WRITABLE, TEXT}
 use Rattle.elf64_exec.specs.Executable.{executable, IsImage}
 use Rattle.elf64_exec.specs.Loading.{Loads}
 use Rattle.layout_rounds.specs.FarSets.{member}

@@ -1,4 +1,5 @@
 pub mod Options
 pub mod Link
+pub mod Texts
 pub mod inside
 pub mod laws

@@ -9,7 +9,7 @@ mod overflow;
 
 pub use engine::link;
 pub use files::{BRANCH_SPAN, Linked, Options, TOC_SPAN};
-pub use laws::links_are_one;
+pub use laws::{linked_texts_stand, links_are_one};
 pub use object_set::{FileBytes, Refusal, Site};
 pub use ppc_bytes::Steps;
 

@@ -90,7 +90,8 @@ pub record AreTextAddresses (text : List ℕ) : Type 0 where
   pub low : (s : ℕ) → s < length text → slice_index text s ≤ 0x60000000
 
 -- in the layout of a job sections, stubs, calls and fields have room in the text, and branches reach
-pub record HasRooms (files : List (List ℕ)) (plan : LaidData) (sites : List CallSite) (t : KeyedText) (far : List Bool) (p : PlacedText) : Type 0 where
+pub record HasRooms (files : List (List ℕ)) (plan : LaidData) (sites : List CallSite) (t : KeyedText) (far : List Bool)
+    (p : PlacedText) : Type 0 where
   pub start : plan.text_start ≤ text_end t (member far)
   pub end : p.end ≡ text_end t (member far)
   pub far_count : length far ≡ key_count t

@@ -27,12 +27,13 @@ use Rattle.link_engine.specs.Options.{LinkOptions}
 use Rattle.link_engine.specs.Link.{plan_of, calls_of, early_refusal, IsLaidOut, overflow_at, overflow, rewriting_by, entry_address, text_of, GivesImage, IsLinked, LinksTo, LinksAreOne}
 
 -- files that aren't refused before their text is laid out
-record ArePassed (files : List (List ℕ)) (options : LinkOptions) : Type 0 where
-  whole : set_refusal files ≡ None
-  records : records_refusal files ≡ None
-  fits : data_refusal files options.toc_span ≡ None
+pub record ArePassed (files : List (List ℕ)) (options : LinkOptions) : Type 0 where
+  pub whole : set_refusal files ≡ None
+  pub records : records_refusal files ≡ None
+  pub fits : data_refusal files options.toc_span ≡ None
+  pub calls : sites_refusal files (plan_of files options).groups ≡ None
 
-passed : (files : List (List ℕ)) (options : LinkOptions) → early_refusal files options ≡ None → ArePassed files options
+pub passed : (files : List (List ℕ)) (options : LinkOptions) → early_refusal files options ≡ None → ArePassed files options
 passed files options none =
     let entry = options.entry in
     let calls : Option Refusal = sites_refusal files (plan_of files options).groups in
@@ -40,10 +41,12 @@ passed files options none =
     let first = both_none (set_refusal files) (resolve_refusal files entry orelse (pieces orelse calls)) none in
     let second = both_none (resolve_refusal files entry) (pieces orelse calls) first.1 in
     let names = both_none (duplicate_refusal files) (entry_refusal files entry orelse records_refusal files) second.0 in
+    let last = both_none pieces calls second.1 in
     record {
       whole = first.0;
       records = (both_none (entry_refusal files entry) (records_refusal files) names.1).1;
-      fits = (both_none pieces calls second.1).0;
+      fits = last.0;
+      calls = last.1;
     }
 
 module _ (files : List (List ℕ)) (options : LinkOptions) where

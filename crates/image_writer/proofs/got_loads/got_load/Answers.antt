@@ -64,7 +64,8 @@ paired_load-requires-clause-access c = λ tail there.
     (text_field files id GotPcrel34 c.requires.kind).text c.in_ok-section.ensures in
     let bytes = c.requires.bytes ∙ ap (section_bytes (file_at files id.file)) (sym c.section_of.ensures.section) in
     subst (λ (b : List ℕ). IsAccessAt b offset tail) (sym bytes)
-    (access_at files c.args.pairs.now c.requires.pairs id.file c.section_of.result c.requires.record.file_in c.section_of.ensures.about.within
+    (access_at files c.args.pairs.now c.requires.pairs id.file c.section_of.result
+    c.requires.record.file_in c.section_of.ensures.about.within
     is.text offset tail (subst (λ (n : ℕ). Contains c.args.pairs.now (text_pair n offset tail)) is.number there))
 
 -- and is the only one there
@@ -75,7 +76,8 @@ paired_load-requires-clause-one c = λ tail other there too.
     let offset = c.record_of-offset.result.offset in
     let is = numbered files id.file c.section_of.result id.section c.in_ok-section.section c.section_of.ensures.section
     (text_field files id GotPcrel34 c.requires.kind).text c.in_ok-section.ensures in
-    one_access files c.args.pairs.now c.requires.pairs id.file c.section_of.result c.requires.record.file_in c.section_of.ensures.about.within
+    one_access files c.args.pairs.now c.requires.pairs id.file c.section_of.result
+    c.requires.record.file_in c.section_of.ensures.about.within
     is.text offset tail other (subst (λ (n : ℕ). Contains c.args.pairs.now (text_pair n offset tail)) is.number there)
     (subst (λ (n : ℕ). Contains c.args.pairs.now (text_pair n offset other)) is.number too)
 

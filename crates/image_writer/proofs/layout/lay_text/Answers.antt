@@ -26,11 +26,14 @@ returns-in-Ok-settle-clause-job g c =
       is_span = c.requires.span;
       keyed_is = laid.keyed_is;
       far_count = laid.far_count;
-      closed = subst (λ t. IsClosed t c.in-Ok.shape.sites.items c.args.span (member c.in-Ok-settle.settled.far)) (sym laid.keyed_is) laid.far_is.closed;
+      closed = subst (λ t. IsClosed t c.in-Ok.shape.sites.items c.args.span (member c.in-Ok-settle.settled.far))
+          (sym laid.keyed_is) laid.far_is.closed;
       laid = laid.places_are;
-      within = subst (λ t. text_end t (member c.in-Ok-settle.settled.far) ≤ c.in-Ok.shape.start + TEXT_LIMIT) (sym laid.keyed_is) accepted.within;
+      within = subst (λ t. text_end t (member c.in-Ok-settle.settled.far) ≤ c.in-Ok.shape.start + TEXT_LIMIT)
+          (sym laid.keyed_is) accepted.within;
       reached = subst (λ t. (i : ℕ) → i < length c.in-Ok.shape.sites.items →
-          call_reaches t c.in-Ok.shape.sites.items (member c.in-Ok-settle.settled.far) c.args.span i ≡ true) (sym laid.keyed_is) accepted.reached;
+          call_reaches t c.in-Ok.shape.sites.items (member c.in-Ok-settle.settled.far) c.args.span i ≡ true)
+          (sym laid.keyed_is) accepted.reached;
     }
 
 -- each placement is counted for a call of the shape

@@ -1,4 +1,4 @@
-use Rattle.std.proofs.Common.{ℕ, ◌≡◌, ◌<◌, Bool, true, false, List, length, map, get_or, Some, ap, sym, ◌∙◌, subst, arith, to_z, of_z, if◌then◌else◌}
+use Rattle.std.proofs.Common.{ℕ, ◌≡◌, ◌<◌, Bool, true, false, List, length, map, get_or, Some, slice_get, ap, sym, ◌∙◌, subst, arith, to_z, of_z, if◌then◌else◌}
 use Rattle.std.specs.Int.{w128}
 use Rattle.std.specs.List.{range_with_len}
 use Rattle.std.proofs.lemmas.Int.{ints}
@@ -30,9 +30,10 @@ orderly-requires c =
 
 -- whether the file is orderly
 orderly_is : (files : List (List ℕ)) (file : ℕ) (orderly : List Bool) (o : Bool) → file < length files →
-    orderly ≡ map (is_orderly files) (range_with_len 0 (length files)) → get_or orderly file false ≡ o → o ≡ is_orderly files file
+    orderly ≡ map (is_orderly files) (range_with_len 0 (length files)) → slice_get orderly file ≡ Some o →
+    o ≡ is_orderly files file
 orderly_is files file orderly o within are read =
-    sym read ∙ ap (λ (l : List Bool). get_or l file false) are
+    sym (get_or_from_slice_get orderly file o false read) ∙ ap (λ (l : List Bool). get_or l file false) are
     ∙ get_or-map-range_with_len (is_orderly files) 0 (length files) file file false within (omega arith)
 
 -- what is seen of the record chooses what is put
@@ -48,7 +49,8 @@ module _ (files : List (List ℕ)) (span : ℕ) (text : List ℕ) (pairs : List 
       else load_or_field files span text (rewriting_of files span pairs) start r load.kind
       (rewritten_load files span text (rewriting_of files span pairs) r load.kind))
   choice t is =
-      ap (λ (b : Bool). if b then folded_patch files span text start r (toc_record files span text (slot_records (laid_by files span)) r load.kind)
+      ap (λ (b : Bool). if b then folded_patch files span text start r
+      (toc_record files span text (slot_records (laid_by files span)) r load.kind)
       else load_or_field files span text (rewriting_of files span pairs) start r load.kind
       (rewritten_load files span text (rewriting_of files span pairs) r load.kind)) (told t is)
 
@@ -68,7 +70,7 @@ put_folded-requires-clause-rewritten c =
     let low = c.requires.bases id.file in
     let kept : to_z w128 (of_z w128 c.args.value) ≡ c.args.value = omega (arith, ints, c.ranges.value.sfits) in
     let orderly = orderly_is files id.file c.args.folds.now.orderly c.orderly.result c.requires.record.file_in c.requires.folds.orderly
-    (get_or_from_slice_get c.args.folds.now.orderly id.file c.orderly.result false c.orderly.ensures) in
+    c.orderly.ensures in
     may_rewrite files span c.args.plan.now c.requires.of_files.plan_is whole c.requires.of_files.records
     (λ a p q one other. c.parts_are_apart.ensures files span a p q whole one other) c.args.places.now.sections c.requires.addresses
     c.requires.of_files.texts id load.kind c.requires.record load (to_z w128 (of_z w128 c.args.value)) c.requires.load
@@ -86,7 +88,7 @@ put_load_or_field-requires-clause-holds c =
     let whole = ap set_refusal (sym c.set.ensures) ∙ c.file_count-files.ensures.whole in
     let kept : to_z w128 (of_z w128 c.args.value) ≡ c.args.value = omega (arith, ints, c.ranges.value.sfits) in
     let orderly = orderly_is files id.file c.args.folds.now.orderly c.orderly.result c.requires.record.file_in c.requires.folds.orderly
-    (get_or_from_slice_get c.args.folds.now.orderly id.file c.orderly.result false c.orderly.ensures) in
+    c.orderly.ensures in
     let none = not_folded files span c.args.plan.now c.requires.of_files.plan_is whole c.requires.of_files.records
     (λ a p q one other. c.parts_are_apart.ensures files span a p q whole one other) c.args.places.now.sections c.requires.addresses
     c.requires.of_files.texts id load.kind c.requires.record load c.requires.load
@@ -99,7 +101,7 @@ returns-then-is_rewritten-clause-put c =
     let files = c.args.res.now.files in
     let id = c.args.id in
     let orderly = orderly_is files id.file c.args.folds.now.orderly c.orderly.result c.requires.record.file_in c.requires.folds.orderly
-    (get_or_from_slice_get c.args.folds.now.orderly id.file c.orderly.result false c.orderly.ensures) in
+    c.orderly.ensures in
     c.put_folded.ensures.put
     ∙ ap (all_patched c.args.text.now)
     (folded files c.args.plan.now.span c.args.places.now.sections c.args.pairs.now c.args.plan.now.text_start id c.args.load.now
@@ -111,7 +113,7 @@ returns-else-is_rewritten-clause-put c =
     let files = c.args.res.now.files in
     let id = c.args.id in
     let orderly = orderly_is files id.file c.args.folds.now.orderly c.orderly.result c.requires.record.file_in c.requires.folds.orderly
-    (get_or_from_slice_get c.args.folds.now.orderly id.file c.orderly.result false c.orderly.ensures) in
+    c.orderly.ensures in
     c.put_load_or_field.ensures.put
     ∙ ap (all_patched c.args.text.now)
     (sym (choice files c.args.plan.now.span c.args.places.now.sections c.args.pairs.now c.args.plan.now.text_start id c.args.load.now

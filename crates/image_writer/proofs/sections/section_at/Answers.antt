@@ -9,7 +9,8 @@ use Rattle.image_writer.proofs.sections.section_at.Goals as goal
 -- what stands in the list there
 pub returns-clause-id : goal.returns-clause-id
 returns-clause-id c =
-    sym (get_or_from_slice_get (text_sections c.args.res.now.files) c.args.s (section_id c.text_of-file.result) no_section c.text_of-file.ensures)
+    sym (get_or_from_slice_get (text_sections c.args.res.now.files) c.args.s
+    (section_id c.text_of-file.result) no_section c.text_of-file.ensures)
 
 -- is a text section
 pub returns-clause-is : goal.returns-clause-is

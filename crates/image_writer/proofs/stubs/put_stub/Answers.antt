@@ -12,7 +12,8 @@ pub returns-clause-put : goal.returns-clause-put
 returns-clause-put c =
     let settled = c.args.settled.now in
     let far = member settled.far in
-    let start = ap (λ (n : ℕ). c.stub_at.result - n) c.text_start.ensures ∙ ap (λ (n : ℕ). n - c.args.plan.now.text_start) c.stub_at.ensures in
+    let start = ap (λ (n : ℕ). c.stub_at.result - n) c.text_start.ensures
+    ∙ ap (λ (n : ℕ). n - c.args.plan.now.text_start) c.stub_at.ensures in
     let size = c.size-size.ensures ∙ ap (λ (key : Key). size_of key.class c.holds.result) c.key.ensures.key
     ∙ ap (size_of (key_at settled.keyed c.args.k).class) c.holds.ensures in
     c.put_words.ensures.put

@@ -12,7 +12,8 @@ use Rattle.image_writer.proofs.toc_loads.named_distance.Goals as goal
 -- where the record goes is read of the plan
 pub address-requires : goal.address-requires
 address-requires c =
-    laid_target c.args.res.now.files c.args.plan.now.span c.args.plan.now c.requires.of_files.plan_is c.target_of.result c.target_of.ensures.known
+    laid_target c.args.res.now.files c.args.plan.now.span c.args.plan.now c.requires.of_files.plan_is
+    c.target_of.result c.target_of.ensures.known
 
 -- no slot begins there
 pub returns-in_err-slot : goal.returns-in_err-slot
@@ -22,7 +23,8 @@ returns-in_err-slot c =
     let whole = ap set_refusal (sym c.set.ensures) ∙ c.file_count-files.ensures.whole in
     c.from_residual-in_err-slot.ensures
     ∙ sym (no_slot files span c.args.plan.now c.requires.of_files.plan_is whole c.requires.of_files.records
-    (λ a p q one other. c.parts_are_apart.ensures files span a p q whole one other) c.args.places.now.sections c.args.folds.now c.args.id c.target_of.result c.in_ok-number.number
+    (λ a p q one other. c.parts_are_apart.ensures files span a p q whole one other) c.args.places.now.sections
+    c.args.folds.now c.args.id c.target_of.result c.in_ok-number.number
     c.requires.folds c.target_of.ensures.target c.target_of.ensures.known c.in_ok-number.ensures c.in_err-slot.ensures)
 
 -- the one that does is filled by a record that goes somewhere

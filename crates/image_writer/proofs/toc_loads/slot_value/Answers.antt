@@ -9,7 +9,8 @@ use Rattle.image_writer.proofs.toc_loads.slot_value.Goals as goal
 -- where it goes lies in data or in text
 pub address_of-requires-clause-laid : goal.address_of-requires-clause-laid
 address_of-requires-clause-laid c =
-    laid_target c.args.res.now.files c.args.plan.now.span c.args.plan.now c.requires.of_files.plan_is c.target_of.result c.target_of.ensures.known
+    laid_target c.args.res.now.files c.args.plan.now.span c.args.plan.now c.requires.of_files.plan_is
+    c.target_of.result c.target_of.ensures.known
 
 pub address_of-requires-clause-placed : goal.address_of-requires-clause-placed
 address_of-requires-clause-placed c =
