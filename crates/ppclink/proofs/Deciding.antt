@@ -1,16 +1,21 @@
 -- A request comes to one thing: a law for each command, and one for all.
-use Rattle.std.proofs.Common.{◌≡◌, ℕ, inl, inr, List, [], ◌∷◌, Option, Some, None, sym, ap, ◌∙◌}
+use Rattle.std.proofs.Common.{◌≡◌, ℕ, inl, inr, List, [], ◌∷◌, Option, Some, None, sym, ap, subst, ◌∙◌}
+use Rattle.std.specs.Prelude.{Result, Ok, Err}
 use Rattle.elf64_exec.specs.laws.Faults.{no_fault, one_fault}
 use Rattle.power_machine.specs.laws.Steps.{one_run}
 use Rattle.ppc_outside.specs.Outside.{Files}
 use Rattle.link_engine.specs.Options.{LinkOptions}
 use Rattle.link_engine.specs.laws.Outcomes.{links_are_one}
+use Rattle.ppc_archive.specs.Expand.{NamedFile, NamedRefusal}
+use Rattle.ppc_archive.specs.laws.OneJob.{chooses_once}
+use Rattle.ppclink.specs.Jobs.{fetched, names_in_job, contents_in_job}
 use Rattle.ppclink.specs.Requests.{Request, link_to, show_file, run_image, names_of}
 use Rattle.ppclink.specs.Runs.{Response, printed, IsProgram, IsNoProgram, Executes, exec_line, long_line, progress_response}
-use Rattle.ppclink.specs.Responses.{LinkResponds, link_response, ShowResponds, RunResponds, Responds, RespondsBut, RespondsOver, first_missing, contents_in}
+use Rattle.ppclink.specs.Responses.{LinkResponds, JobResponds, ChoiceResponds, link_response, ShowResponds, RunResponds, Responds, RespondsBut, RespondsOver, first_missing, contents_in}
 
 -- a program has one run
-one_program : (file input : List ℕ) (budget : ℕ) (r r' : Response) → IsProgram file input budget r → IsProgram file input budget r' → r ≡ r'
+one_program : (file input : List ℕ) (budget : ℕ) (r r' : Response) → IsProgram file input budget r →
+    IsProgram file input budget r' → r ≡ r'
 one_program file input budget r r' a b =
     sym a.is ∙ ap progress_response (one_run file input [] budget a.progress b.progress a.runs b.runs) ∙ b.is
 
@@ -52,12 +57,25 @@ show_once name [] r r' h k = absurd h
 show_once name (b ∷ []) r r' h k = sym h ∙ k
 show_once name (b ∷ more ∷ rest) r r' h k = absurd h
 
+job_once : (out : List ℕ) (options : LinkOptions) (job : List NamedFile) (r r' : Response) → JobResponds out options job r →
+    JobResponds out options job r' → r ≡ r'
+job_once out options job r r' h k =
+    sym h.is ∙ ap (link_response out (names_in_job job)) (links_are_one
+        (contents_in_job job) options h.outcome k.outcome h.links k.links) ∙ k.is
+
+choice_once : (out : List ℕ) (options : LinkOptions) (choice : Result (List NamedFile) NamedRefusal) (r r' : Response) →
+    ChoiceResponds out options choice r → ChoiceResponds out options choice r' → r ≡ r'
+choice_once out options (Err fault) r r' h k = sym h ∙ k
+choice_once out options (Ok job) r r' h k = job_once out options job r r' h k
+
 link_once : (out : List ℕ) (options : LinkOptions) (names contents : List (List ℕ)) (r r' : Response) →
     LinkResponds out options names contents r →
     LinkResponds out options names contents r' →
     r ≡ r'
 link_once out options names contents r r' h k =
-    sym h.is ∙ ap (link_response out names) (links_are_one contents options h.outcome k.outcome h.links k.links) ∙ k.is
+    let one = chooses_once (fetched names contents) options.entry h.choice k.choice h.chooses k.chooses in
+    choice_once out options k.choice r r' (subst (λ (c : Result (List NamedFile) NamedRefusal). ChoiceResponds out options c r)
+        one h.is) k.is
 
 responds_once : (request : Request) (contents : List (List ℕ)) (r r' : Response) →
     Responds request contents r →

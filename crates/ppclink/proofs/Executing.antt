@@ -104,7 +104,8 @@ cut_input image input file given whole budget r is h =
           (is_long input_limit input given long.0) h in
           subst (λ t. Executes image file whole budget (t orelse too_long image_limit image file) r)
           (sym (is_long input_limit input whole long.1)) here
-      | inr same ↦ subst (λ b. Executes image file b budget (too_long input_limit input b orelse too_long image_limit image file) r) same h
+      | inr same ↦ subst (λ b. Executes image file b budget (too_long input_limit input b orelse too_long image_limit image
+          file) r) same h
     ]
 
 comes_alone : (store : StoreState) (image file : List ℕ) (budget : ℕ) (r : Response) →

@@ -8,13 +8,15 @@ use Rattle.object_set.specs.Files.{contents_of}
 use Rattle.ppc_outside.specs.Outside.{Files, StoreState, Lacks, RoseOr, FetchFails}
 use Rattle.ppc_outside.specs.declared.outside.OutsideError.{OutsideError}
 use Rattle.ppc_outside.specs.declared.outside.OutsideError.TheVariants.{Failed}
+use Rattle.ppclink.specs.Jobs.{names_of_files}
 use Rattle.ppclink.specs.Requests.{texts}
 use Rattle.ppclink.specs.Responses.{first_missing, or_missing}
 use Rattle.ppclink.specs.Statuses.{IsFirstMissing}
 use Rattle.ppclink.specs.inside.Fetched.{file_limit, HasRead, HaveRead, OneCause, FailsAt}
 
 -- one more file was read
-read-suc : (told : Option Files) (names : List (String Global)) (i : ℕ) (name : String Global) (contents : List (List ℕ)) (bytes : List ℕ) →
+read-suc : (told : Option Files) (names : List (String Global)) (i : ℕ) (name : String Global) (contents : List (List ℕ))
+    (bytes : List ℕ) →
     i < length names →
     HaveRead told (texts (take i names)) contents →
     HasRead told file_limit (string_bytes (get_or names i name)) bytes →
@@ -45,6 +47,29 @@ read_more old now names i name files after f text lt same is pushed read one =
     let step = read-suc old.told names i name (contents_of files) f.bytes.items lt read named in
     let more = subst (λ k. HaveRead old.told (texts (take k names)) (contents_of files ++ f.bytes.items ∷ [])) (sym (add-one i)) step in
     subst (λ l. HaveRead old.told (texts (take (i + 1) names)) l) (sym (ap contents_of pushed ∙ contents-append files f)) more
+
+-- and is called by its name
+name-suc : (names : List (String Global)) (i : ℕ) (name : String Global) → i < length names →
+    texts (take (suc i) names) ≡ texts (take i names) ++ string_bytes (get_or names i name) ∷ []
+name-suc [] i name lt = absurd (omega arith)
+name-suc (n ∷ names) zero name lt = refl
+name-suc (n ∷ names) (suc i) name lt = ap (λ l. string_bytes n ∷ l) (name-suc names i name (omega arith))
+
+names-append : (files : List FileBytes) (f : FileBytes) → names_of_files
+    (files ++ f ∷ []) ≡ names_of_files files ++ string_bytes f.name ∷ []
+names-append [] f = refl
+names-append (g ∷ files) f = ap (λ l. string_bytes g.name ∷ l) (names-append files f)
+
+pub names_more : (names : List (String Global)) (i : ℕ) (name : String Global) (files after : List FileBytes) (f : FileBytes) →
+    i < length names →
+    names_of_files files ≡ texts (take i names) →
+    after ≡ files ++ f ∷ [] →
+    string_bytes f.name ≡ string_bytes (get_or names i name) →
+    names_of_files after ≡ texts (take (i + 1) names)
+names_more names i name files after f lt so_far pushed called =
+    ap names_of_files pushed ∙ names-append files f ∙ ap (λ (l : List (List ℕ)). l ++ string_bytes f.name ∷ []) so_far
+    ∙ ap (λ (n : List ℕ). texts (take i names) ++ n ∷ []) called ∙ sym (name-suc names i name lt)
+    ∙ ap (λ (k : ℕ). texts (take k names)) (sym (add-one i))
 
 -- the first name that is absent, behind names that were read
 missing_at : (files : Files) (names : List (String Global)) (i : ℕ) (name : String Global) (contents : List (List ℕ)) →

@@ -132,7 +132,8 @@ quiet_text status result c c' quiet (inl is) = inl is
 quiet_text status result c c' quiet (inr (inl (is, risen))) = absurd (unrisen c.faults c'.faults quiet risen)
 quiet_text status result c c' quiet (inr (inr is)) = inr is
 
-quiet_file : (result : ℕ) (s s' : StoreState) → IsQuiet s.write_faults s'.write_faults → IsDoneOr result s s' → (result ≡ 0) ⊎ (result ≡ 5)
+quiet_file : (result : ℕ) (s s' : StoreState) → IsQuiet s.write_faults s'.write_faults → IsDoneOr result s s' →
+    (result ≡ 0) ⊎ (result ≡ 5)
 quiet_file result s s' quiet (inl is) = inl is
 quiet_file result s s' quiet (inr (inl (is, risen))) = absurd (unrisen s.write_faults s'.write_faults quiet risen)
 quiet_file result s s' quiet (inr (inr is)) = inr is

@@ -42,7 +42,8 @@ comes told name c r read is =
     comes_held told (show_file name) (read.whole ∷ []) r (read.holds, tt) (sym (same_response name c read.whole read.cut) ∙ is)
 
 -- the status of a file that is shown or refused
-status_le : (name b : List ℕ) (status : ℕ) (text : List ℕ) (o : Option Refusal) → show_response name b o ≡ printed status text → status ≤ 1
+status_le : (name b : List ℕ) (status : ℕ) (text : List ℕ) (o : Option Refusal) → show_response name b o ≡ printed status text →
+    status ≤ 1
 status_le name b status text None is = subst (λ r. status_of r ≤ 1) is (omega arith)
 status_le name b status text (Some r) is = subst (λ r. status_of r ≤ 1) is (omega arith)
 

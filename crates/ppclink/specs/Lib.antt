@@ -1,6 +1,7 @@
 pub mod Numbers
 pub mod Requests
 pub mod Lines
+pub mod Jobs
 pub mod Show
 pub mod Runs
 pub mod Responses

@@ -5,7 +5,8 @@ use Rattle.elf64_records.specs.declared.fault.Place.{Place}
 use Rattle.elf64_records.specs.declared.fault.Place.TheVariants.{File, Section, Symbol, Record}
 use Rattle.object_set.specs.declared.refusal.Site.{Site}
 use Rattle.object_set.specs.declared.refusal.Refusal.{Refusal}
-use Rattle.object_set.specs.declared.refusal.Refusal.TheVariants.{FileTooLong, NotElf, NotPpc64Le, SharedObject, NotObject, BadAbi, BadTable, Unsupported, UnsupportedAt, Tls, TlsAt, BadSection, BadAlign, BadSymbol, Duplicate, NoEntry, EntryNotCode, UnknownReloc, BadSite, Unresolved, NotCode, DataTooBig, NoRestore, TextTooBig, StubReach, Overflow, Memory}
+use Rattle.object_set.specs.declared.refusal.Refusal.TheVariants.{FileTooLong, NotElf, NotPpc64Le, SharedObject, NotObject, BadAbi, BadTable, Unsupported, UnsupportedAt, Tls, TlsAt, BadSection, BadAlign, BadSymbol, Duplicate, NoEntry, EntryNotCode, UnknownReloc, BadSite, Unresolved, NotCode, DataTooBig, NoRestore, TextTooBig, StubReach, Overflow, BadArchive, TooManyFiles, Memory}
+use Rattle.ppc_archive.specs.Expand.{NamedRefusal}
 
 -- a line of the linker
 abbrev pub line : List ℕ → List ℕ
@@ -41,33 +42,43 @@ site_text site = section_text site.section ++ codes " offset 0x" ++ digits 16 fa
 abbrev pub about : List ℕ → List ℕ → List ℕ → List ℕ
 about name place what = line (name ++ place ++ codes ": " ++ what)
 
--- the line of a refusal, where the files have these names; the refusal that memory was refused has none
+-- the line of a refusal, where each file is called by its number so; the refusal that memory was refused has none
+abbrev pub refusal_text : (ℕ → List ℕ) → Refusal → List ℕ
+refusal_text called (FileTooLong file) = about (called file) [] (codes "file too long")
+refusal_text called (NotElf file) = about (called file) [] (codes "not an ELF file")
+refusal_text called (NotPpc64Le file) = about (called file) [] (codes "not little-endian ppc64")
+refusal_text called (SharedObject file) = about (called file) [] (codes "shared object")
+refusal_text called (NotObject file) = about (called file) [] (codes "not a relocatable file")
+refusal_text called (BadAbi file) = about (called file) [] (codes "not ELFv2")
+refusal_text called (BadTable file place) = about (called file) (place_text place) (codes "bad table")
+refusal_text called (Unsupported file place) = about (called file) (place_text place) (codes "unsupported")
+refusal_text called (UnsupportedAt site) = about (called site.file) (site_text site) (codes "unsupported")
+refusal_text called (Tls file place) = about (called file) (place_text place) (codes "thread-local storage")
+refusal_text called (TlsAt site) = about (called site.file) (site_text site) (codes "thread-local storage")
+refusal_text called (BadSection file i) = about (called file) (section_text i) (codes "bad section")
+refusal_text called (BadAlign file place) = about (called file) (place_text place) (codes "bad alignment")
+refusal_text called (BadSymbol file j) = about (called file) (place_text (Symbol j)) (codes "bad symbol")
+refusal_text called (Duplicate name a b) =
+    line (called a ++ codes " and " ++ called b ++ codes ": defined twice " ++ name)
+refusal_text called (NoEntry name) = line (codes "no entry " ++ name)
+refusal_text called (EntryNotCode name) = line (codes "entry is not code " ++ name)
+refusal_text called (UnknownReloc site n) = about (called site.file) (site_text site) (codes "unknown relocation " ++ decimal n)
+refusal_text called (BadSite site) = about (called site.file) (site_text site) (codes "bad relocation site")
+refusal_text called (Unresolved name site) = about (called site.file) (site_text site) (codes "unresolved " ++ name)
+refusal_text called (NotCode site) = about (called site.file) (site_text site) (codes "branch target is not code")
+refusal_text called DataTooBig = line (codes "data too big")
+refusal_text called (NoRestore site) = about (called site.file) (site_text site) (codes "no nop to restore r2")
+refusal_text called TextTooBig = line (codes "text too big")
+refusal_text called (StubReach site) = about (called site.file) (site_text site) (codes "stub out of reach")
+refusal_text called (Overflow site value) = about (called site.file) (site_text site) (codes "overflow " ++ signed_decimal value)
+refusal_text called (BadArchive file at) = about (called file) [] (codes "bad archive at 0x" ++ digits 16 false at)
+refusal_text called TooManyFiles = line (codes "too many files")
+refusal_text called Memory = []
+
+-- the line of a refusal of files with these names
 abbrev pub refusal_line : List (List ℕ) → Refusal → List ℕ
-refusal_line names (FileTooLong file) = about (name_in names file) [] (codes "file too long")
-refusal_line names (NotElf file) = about (name_in names file) [] (codes "not an ELF file")
-refusal_line names (NotPpc64Le file) = about (name_in names file) [] (codes "not little-endian ppc64")
-refusal_line names (SharedObject file) = about (name_in names file) [] (codes "shared object")
-refusal_line names (NotObject file) = about (name_in names file) [] (codes "not a relocatable file")
-refusal_line names (BadAbi file) = about (name_in names file) [] (codes "not ELFv2")
-refusal_line names (BadTable file place) = about (name_in names file) (place_text place) (codes "bad table")
-refusal_line names (Unsupported file place) = about (name_in names file) (place_text place) (codes "unsupported")
-refusal_line names (UnsupportedAt site) = about (name_in names site.file) (site_text site) (codes "unsupported")
-refusal_line names (Tls file place) = about (name_in names file) (place_text place) (codes "thread-local storage")
-refusal_line names (TlsAt site) = about (name_in names site.file) (site_text site) (codes "thread-local storage")
-refusal_line names (BadSection file i) = about (name_in names file) (section_text i) (codes "bad section")
-refusal_line names (BadAlign file place) = about (name_in names file) (place_text place) (codes "bad alignment")
-refusal_line names (BadSymbol file j) = about (name_in names file) (place_text (Symbol j)) (codes "bad symbol")
-refusal_line names (Duplicate name a b) =
-    line (name_in names a ++ codes " and " ++ name_in names b ++ codes ": defined twice " ++ name)
-refusal_line names (NoEntry name) = line (codes "no entry " ++ name)
-refusal_line names (EntryNotCode name) = line (codes "entry is not code " ++ name)
-refusal_line names (UnknownReloc site n) = about (name_in names site.file) (site_text site) (codes "unknown relocation " ++ decimal n)
-refusal_line names (BadSite site) = about (name_in names site.file) (site_text site) (codes "bad relocation site")
-refusal_line names (Unresolved name site) = about (name_in names site.file) (site_text site) (codes "unresolved " ++ name)
-refusal_line names (NotCode site) = about (name_in names site.file) (site_text site) (codes "branch target is not code")
-refusal_line names DataTooBig = line (codes "data too big")
-refusal_line names (NoRestore site) = about (name_in names site.file) (site_text site) (codes "no nop to restore r2")
-refusal_line names TextTooBig = line (codes "text too big")
-refusal_line names (StubReach site) = about (name_in names site.file) (site_text site) (codes "stub out of reach")
-refusal_line names (Overflow site value) = about (name_in names site.file) (site_text site) (codes "overflow " ++ signed_decimal value)
-refusal_line names Memory = []
+refusal_line names refusal = refusal_text (name_in names) refusal
+
+-- the line of a refusal that comes with the name of its file
+abbrev pub fault_line : NamedRefusal → List ℕ
+fault_line fault = refusal_text (λ file. fault.name) fault.refusal

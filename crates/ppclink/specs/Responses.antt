@@ -1,5 +1,5 @@
 -- What a request comes to, given what the files hold.
-use Rattle.std.specs.Prelude.{ℕ, ◌≡◌, List, [], ◌∷◌, map, Option, Some, None, unwrap_or, Ok, Err}
+use Rattle.std.specs.Prelude.{ℕ, ◌≡◌, List, [], ◌∷◌, map, Option, Some, None, unwrap_or, Result, Ok, Err}
 use Rattle.elf64_records.specs.First.{◌orelse◌}
 use Rattle.object_set.specs.Refusals.{length_refusal, fault_refusal}
 use Rattle.object_set.specs.declared.refusal.Refusal.{Refusal}
@@ -7,7 +7,9 @@ use Rattle.link_engine.specs.Link.{LinkOutcome, LinksTo}
 use Rattle.link_engine.specs.Options.{LinkOptions}
 use Rattle.ppc_outside.specs.Outside.{Files, StoreState}
 use Rattle.ppclink.specs.Requests.{Request, link_to, show_file, run_image, names_of}
-use Rattle.ppclink.specs.Lines.{refusal_line, unread_line}
+use Rattle.ppc_archive.specs.Expand.{NamedFile, NamedRefusal, ChoosesTo}
+use Rattle.ppclink.specs.Lines.{refusal_line, fault_line, unread_line}
+use Rattle.ppclink.specs.Jobs.{fetched, names_in_job, contents_in_job}
 use Rattle.ppclink.specs.Show.{shown}
 use Rattle.ppclink.specs.Runs.{Response, printed, written, Executes, long_line}
 
@@ -16,11 +18,22 @@ abbrev pub link_response : List ℕ → List (List ℕ) → LinkOutcome → Resp
 link_response out names (Err refusal) = printed 1 (refusal_line names refusal)
 link_response out names (Ok image) = written out image
 
--- a link of these contents
-pub record LinkResponds (out : List ℕ) (options : LinkOptions) (names contents : List (List ℕ)) (response : Response) : Type 0 where
+-- a link of a job's files
+pub record JobResponds (out : List ℕ) (options : LinkOptions) (job : List NamedFile) (response : Response) : Type 0 where
   pub outcome : LinkOutcome
-  pub links : LinksTo contents options outcome
-  pub is : link_response out names outcome ≡ response
+  pub links : LinksTo (contents_in_job job) options outcome
+  pub is : link_response out (names_in_job job) outcome ≡ response
+
+-- what files come to, as a response: the line of their refusal, or a link of the job
+abbrev pub ChoiceResponds : List ℕ → LinkOptions → Result (List NamedFile) NamedRefusal → Response → Type 0
+ChoiceResponds out options (Err fault) response = printed 1 (fault_line fault) ≡ response
+ChoiceResponds out options (Ok job) response = JobResponds out options job response
+
+-- a link of files with these names and contents, in which each library is replaced by its chosen members
+pub record LinkResponds (out : List ℕ) (options : LinkOptions) (names contents : List (List ℕ)) (response : Response) : Type 0 where
+  pub choice : Result (List NamedFile) NamedRefusal
+  pub chooses : ChoosesTo (fetched names contents) options.entry choice
+  pub is : ChoiceResponds out options choice response
 
 -- why an object file can't be shown
 abbrev pub view_refusal : List ℕ → Option Refusal

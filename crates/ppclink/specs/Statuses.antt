@@ -1,9 +1,11 @@
 -- What each status of the command means: a status is tied to the store and the console before and after the call, and to what the
 -- words ask for.
-use Rattle.std.specs.Prelude.{ℕ, ◌≡◌, ◌≢◌, ◌⊎◌, ◌<◌, ◌≤◌, ◌+◌, List, Option, Some, None, Contains, IsSome}
+use Rattle.std.specs.Prelude.{ℕ, ◌≡◌, ◌≢◌, ◌⊎◌, ◌<◌, ◌≤◌, ◌+◌, List, Option, Some, None, Contains, IsSome, Result, Ok, Err}
 use Rattle.ppc_outside.specs.Outside.{Files, StoreState, ConsoleState, HasRisen, RoseOr, last_count, OnlyFetches, SameFiles, IsReplaced, ReplaceFails}
 use Rattle.link_engine.specs.Link.{placement_limit}
 use Rattle.link_engine.specs.Options.{LinkOptions}
+use Rattle.ppc_archive.specs.Expand.{NamedFile, NamedRefusal, ChoosesTo}
+use Rattle.ppclink.specs.Jobs.{fetched, contents_in_job}
 use Rattle.ppclink.specs.Requests.{Request, link_to, show_file, run_image, names_of, names_asked, out_of}
 use Rattle.ppclink.specs.Lines.{usage_line, unread_line}
 use Rattle.ppclink.specs.Runs.{Response, printed, written}
@@ -113,10 +115,21 @@ abbrev pub status_of : Response → ℕ
 status_of (printed status text) = status
 status_of (written out image) = 0
 
--- a link counts a step for each time that it places a text: over the files, where the store tells them, and else over any contents
+-- a link counts a step for each time that it places a text, and none where its files are refused before it
+abbrev pub CountsJob : LinkOptions → Result (List NamedFile) NamedRefusal → ℕ → ℕ → Type 0
+CountsJob options (Err fault) old new = new ≡ old
+CountsJob options (Ok job) old new = new ≤ old + placement_limit (contents_in_job job) options
+
+-- so it is of files with these names and contents
+abbrev pub CountsFor : LinkOptions → List (List ℕ) → List (List ℕ) → ℕ → ℕ → Type 0
+CountsFor options names contents old new =
+    (choice : Result (List NamedFile) NamedRefusal) → ChoosesTo (fetched names contents) options.entry choice →
+    CountsJob options choice old new
+
+-- over the files, where the store tells them, and else over any contents
 abbrev pub CountsOver : Option Files → LinkOptions → List (List ℕ) → ℕ → ℕ → Type 0
-CountsOver None options names old new = (contents : List (List ℕ)) × (new ≤ old + placement_limit contents options)
-CountsOver (Some files) options names old new = new ≤ old + placement_limit (contents_in files names) options
+CountsOver None options names old new = (contents : List (List ℕ)) × CountsFor options names contents old new
+CountsOver (Some files) options names old new = CountsFor options names (contents_in files names) old new
 
 -- no other request counts one
 abbrev pub CountsBy : Option Files → Request → ℕ → ℕ → Type 0

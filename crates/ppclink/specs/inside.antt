@@ -1,4 +1,5 @@
 -- Words of private contracts.
 pub mod Commands
 pub mod Fetched
+pub mod Names
 pub mod Reports

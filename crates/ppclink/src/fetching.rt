@@ -1,6 +1,7 @@
 // Files are fetched before anything is checked.
-ghost use Rattle.std.specs.Prelude.{◌≡◌, ◌<◌, ◌^◌, length, OnOk, IfOk, IfErr};
+ghost use Rattle.std.specs.Prelude.{◌≡◌, ◌<◌, ◌^◌, length, OnOk, IfOk, IfErr, string_bytes};
 ghost use Rattle.object_set.specs.Files.{contents_of};
+ghost use Rattle.ppclink.specs.Jobs.{names_of_files};
 ghost use Rattle.ppclink.specs.Requests.{texts};
 ghost use Rattle.ppclink.specs.inside.Fetched.{HasRead, HaveRead, OneCause, ManyCause, file_limit};
 
@@ -41,6 +42,7 @@ pub fn fetch<S: Store>(
 
 // Fetches an object file.
 fn fetch_file<S: Store>(alloc: Global, name: &str, store: &mut S) -> Result<FileBytes, OutsideError>
+    ensures name { IfOk result (λ file. string_bytes file.name ≡ name.now) }
     ensures ok { IfOk result (λ file.
         HasRead (S.state store.old).told file_limit name.now file.bytes.items) }
     ensures kept { OnOk result (S.state store.new ≡ S.state store.old) }
@@ -64,6 +66,7 @@ pub fn fetch_files<S: Store>(
 ) -> Result<Vec<FileBytes>, Unfetched>
     ensures ok { IfOk result (λ files.
         HaveRead (S.state store.old).told (texts names.now) (contents_of files.items)) }
+    ensures names { IfOk result (λ files. names_of_files files.items ≡ texts names.now) }
     ensures count { IfOk result (λ files. length files.items ≡ length names.now) }
     ensures kept { OnOk result (S.state store.new ≡ S.state store.old) }
     ensures cause { IfErr result (λ cause.

@@ -1,11 +1,14 @@
 // The lines that are printed.
-ghost use Rattle.std.specs.Prelude.{◌≡◌, ◌≢◌, ◌++◌, decimal, codes, IfOk, OnOk, [], ℤ};
-ghost use Rattle.std.specs.Fmt.{signed_decimal};
+ghost use Rattle.std.specs.Prelude.{◌≡◌, ◌≢◌, ◌++◌, decimal, codes, IfOk, OnOk, false, [], ℤ};
+ghost use Rattle.std.specs.Fmt.{digits, signed_decimal};
+ghost use Rattle.ppc_archive.specs.Expand.{named_refusal};
 ghost use Rattle.ppclink.specs.Requests.{texts};
-ghost use Rattle.ppclink.specs.Lines.{line, usage_line, unread_line, name_in, section_text, place_text, site_text, about, refusal_line};
+ghost use Rattle.ppclink.specs.Lines.{line, usage_line, unread_line, name_in, section_text, place_text, site_text, about, refusal_text, refusal_line, fault_line};
+ghost use Rattle.ppclink.specs.Jobs.{names_of_files};
+ghost use Rattle.ppclink.specs.inside.Names.{called};
 
 use elf64_records::Place;
-use link_engine::{Refusal, Site};
+use link_engine::{FileBytes, Refusal, Site};
 use ppc_bytes::Memory;
 use std::alloc::Global;
 
@@ -87,21 +90,53 @@ pub fn about(alloc: Global, name: &[u8], place: &[u8], what: &[u8]) -> Result<Ve
     line(alloc, &text)
 }
 
-/// The lines of refusals of files with these names.
+/// The name of a file among words; it is empty where there is no such file.
+fn word_at(names: &[String], file: u32) -> &[u8]
+    ensures { result.now ≡ name_in (texts names.now) file }
+{
+    match names.get(file as usize) {
+        Some(name) => name.as_str().as_bytes(),
+        None => b"",
+    }
+}
+
+/// The name of a file among files; it is empty where there is no such file.
+fn file_name_at(files: &[FileBytes], file: u32) -> &[u8]
+    ensures { result.now ≡ name_in (names_of_files files.now) file }
+{
+    match files.get(file as usize) {
+        Some(file) => file.name.as_str().as_bytes(),
+        None => b"",
+    }
+}
+
+/// What files are called.
+#[derive(Clone, Copy)]
+enum FileNames<'a> {
+    /// As these words say.
+    Words(&'a [String]),
+    /// As they are called themselves.
+    Files(&'a [FileBytes]),
+    /// All so.
+    One(&'a [u8]),
+}
+
+/// The lines of refusals of files that are called so.
 #[derive(Clone, Copy)]
 struct Lines<'a> {
     alloc: Global,
-    names: &'a [String],
+    names: FileNames<'a>,
 }
 
 impl Lines<'_> {
     // The name of a file, by its number; it is empty where there is no such file.
     fn name(&self, file: u32) -> &[u8]
-        ensures { result.now ≡ name_in (texts self.now.names.now) file }
+        ensures { result.now ≡ called self.now.names file }
     {
-        match self.names.get(file as usize) {
-            Some(name) => name.as_str().as_bytes(),
-            None => b"",
+        match self.names {
+            FileNames::Words(names) => word_at(names, file),
+            FileNames::Files(files) => file_name_at(files, file),
+            FileNames::One(name) => name,
         }
     }
 
@@ -115,14 +150,14 @@ impl Lines<'_> {
 
     fn file(&self, file: u32, what: &[u8]) -> Result<Vec<u8>, Memory>
         ensures { IfOk result (λ text.
-            text.items ≡ about (name_in (texts self.now.names.now) file) [] what.now) }
+            text.items ≡ about (called self.now.names file) [] what.now) }
     {
         about(self.alloc, self.name(file), b"", what)
     }
 
     fn place(&self, file: u32, place: Place, what: &[u8]) -> Result<Vec<u8>, Memory>
         ensures { IfOk result (λ text. text.items
-            ≡ about (name_in (texts self.now.names.now) file) (place_text place) what.now) }
+            ≡ about (called self.now.names file) (place_text place) what.now) }
     {
         let place = place_text(self.alloc, place)?;
         about(self.alloc, self.name(file), &place, what)
@@ -130,7 +165,7 @@ impl Lines<'_> {
 
     fn site(&self, site: &Site, what: &[u8]) -> Result<Vec<u8>, Memory>
         ensures { IfOk result (λ text. text.items
-            ≡ about (name_in (texts self.now.names.now) site.now.file) (site_text site.now)
+            ≡ about (called self.now.names site.now.file) (site_text site.now)
             what.now) }
     {
         let place = site_text(self.alloc, site)?;
@@ -140,7 +175,7 @@ impl Lines<'_> {
     // The same with a name, a number or a value at the end.
     fn site_name(&self, site: &Site, what: &[u8], name: &[u8]) -> Result<Vec<u8>, Memory>
         ensures { IfOk result (λ text. text.items
-            ≡ about (name_in (texts self.now.names.now) site.now.file) (site_text site.now)
+            ≡ about (called self.now.names site.now.file) (site_text site.now)
             (what.now ++ name.now)) }
     {
         let what = joined(self.alloc, what, name)?;
@@ -149,7 +184,7 @@ impl Lines<'_> {
 
     fn site_number(&self, site: &Site, what: &[u8], number: u32) -> Result<Vec<u8>, Memory>
         ensures { IfOk result (λ text. text.items
-            ≡ about (name_in (texts self.now.names.now) site.now.file) (site_text site.now)
+            ≡ about (called self.now.names site.now.file) (site_text site.now)
             (what.now ++ decimal number)) }
     {
         let what = numbered(self.alloc, what, number)?;
@@ -158,7 +193,7 @@ impl Lines<'_> {
 
     fn site_value(&self, site: &Site, what: &[u8], value: i128) -> Result<Vec<u8>, Memory>
         ensures { IfOk result (λ text. text.items
-            ≡ about (name_in (texts self.now.names.now) site.now.file) (site_text site.now)
+            ≡ about (called self.now.names site.now.file) (site_text site.now)
             (what.now ++ signed_decimal value)) }
     {
         let digits = value.to_string(self.alloc)?;
@@ -168,8 +203,8 @@ impl Lines<'_> {
     // The line for a name that is defined twice.
     fn twice(&self, name: &[u8], first: u32, second: u32) -> Result<Vec<u8>, Memory>
         ensures { IfOk result (λ text. text.items
-            ≡ line (name_in (texts self.now.names.now) first ++ codes " and "
-            ++ name_in (texts self.now.names.now) second ++ codes ": defined twice " ++ name.now)) }
+            ≡ line (called self.now.names first ++ codes " and "
+            ++ called self.now.names second ++ codes ": defined twice " ++ name.now)) }
     {
         let mut text = Vec::from_slice(self.alloc, self.name(first))?;
         text.extend_from_slice(b" and ")?;
@@ -178,6 +213,58 @@ impl Lines<'_> {
         text.extend_from_slice(name)?;
         line(self.alloc, &text)
     }
+    // What is wrong at a place of a file, with the place at its end.
+    fn file_offset(&self, file: u32, what: &[u8], at: u64) -> Result<Vec<u8>, Memory>
+        ensures { IfOk result (λ text. text.items
+            ≡ about (called self.now.names file) [] (what.now ++ digits 16 false at)) }
+    {
+        let digits = format!(in self.alloc; "{at:x}")?;
+        let what = joined(self.alloc, what, digits.as_bytes())?;
+        self.file(file, &what)
+    }
+
+    // The line of a refusal.
+    fn refusal(&self, refusal: &Refusal) -> Result<Vec<u8>, Memory>
+        ensures line { IfOk result (λ text.
+            text.items ≡ refusal_text (called self.now.names) refusal.now) }
+        ensures stated { OnOk result (refusal.now ≢ Refusal.Memory) }
+    {
+        match refusal {
+            Refusal::FileTooLong(file) => self.file(*file, b"file too long"),
+            Refusal::NotElf(file) => self.file(*file, b"not an ELF file"),
+            Refusal::NotPpc64Le(file) => self.file(*file, b"not little-endian ppc64"),
+            Refusal::SharedObject(file) => self.file(*file, b"shared object"),
+            Refusal::NotObject(file) => self.file(*file, b"not a relocatable file"),
+            Refusal::BadAbi(file) => self.file(*file, b"not ELFv2"),
+            Refusal::BadTable(file, place) => self.place(*file, *place, b"bad table"),
+            Refusal::Unsupported(file, place) => self.place(*file, *place, b"unsupported"),
+            Refusal::Tls(file, place) => self.place(*file, *place, b"thread-local storage"),
+            Refusal::BadAlign(file, place) => self.place(*file, *place, b"bad alignment"),
+            Refusal::BadSection(file, i) => self.place(*file, Place::Section(*i), b"bad section"),
+            Refusal::BadSymbol(file, j) => self.place(*file, Place::Symbol(*j), b"bad symbol"),
+            Refusal::Duplicate(name, first, second) => self.twice(name.as_slice(), *first, *second),
+            Refusal::NoEntry(name) => self.named(b"no entry ", name.as_slice()),
+            Refusal::EntryNotCode(name) => self.named(b"entry is not code ", name.as_slice()),
+            Refusal::DataTooBig => line(self.alloc, b"data too big"),
+            Refusal::TextTooBig => line(self.alloc, b"text too big"),
+            Refusal::UnsupportedAt(site) => self.site(site, b"unsupported"),
+            Refusal::TlsAt(site) => self.site(site, b"thread-local storage"),
+            Refusal::BadSite(site) => self.site(site, b"bad relocation site"),
+            Refusal::NotCode(site) => self.site(site, b"branch target is not code"),
+            Refusal::NoRestore(site) => self.site(site, b"no nop to restore r2"),
+            Refusal::StubReach(site) => self.site(site, b"stub out of reach"),
+            Refusal::UnknownReloc(site, n) => self.site_number(site, b"unknown relocation ", *n),
+            Refusal::Unresolved(name, site) => self.site_name(
+                site,
+                b"unresolved ",
+                name.as_slice(),
+            ),
+            Refusal::Overflow(site, value) => self.site_value(site, b"overflow ", *value),
+            Refusal::BadArchive(file, at) => self.file_offset(*file, b"bad archive at 0x", *at),
+            Refusal::TooManyFiles => line(self.alloc, b"too many files"),
+            Refusal::Memory => Err(Memory),
+        }
+    }
 }
 
 /// The line of a refusal of files with these names. That memory was refused has no line, and is an error here too.
@@ -185,34 +272,35 @@ pub fn refusal_line(alloc: Global, names: &[String], refusal: &Refusal) -> Resul
     ensures line { IfOk result (λ text. text.items ≡ refusal_line (texts names.now) refusal.now) }
     ensures stated { OnOk result (refusal.now ≢ Refusal.Memory) }
 {
-    let of = Lines { alloc, names };
-    match refusal {
-        Refusal::FileTooLong(file) => of.file(*file, b"file too long"),
-        Refusal::NotElf(file) => of.file(*file, b"not an ELF file"),
-        Refusal::NotPpc64Le(file) => of.file(*file, b"not little-endian ppc64"),
-        Refusal::SharedObject(file) => of.file(*file, b"shared object"),
-        Refusal::NotObject(file) => of.file(*file, b"not a relocatable file"),
-        Refusal::BadAbi(file) => of.file(*file, b"not ELFv2"),
-        Refusal::BadTable(file, place) => of.place(*file, *place, b"bad table"),
-        Refusal::Unsupported(file, place) => of.place(*file, *place, b"unsupported"),
-        Refusal::Tls(file, place) => of.place(*file, *place, b"thread-local storage"),
-        Refusal::BadAlign(file, place) => of.place(*file, *place, b"bad alignment"),
-        Refusal::BadSection(file, i) => of.place(*file, Place::Section(*i), b"bad section"),
-        Refusal::BadSymbol(file, j) => of.place(*file, Place::Symbol(*j), b"bad symbol"),
-        Refusal::Duplicate(name, first, second) => of.twice(name.as_slice(), *first, *second),
-        Refusal::NoEntry(name) => of.named(b"no entry ", name.as_slice()),
-        Refusal::EntryNotCode(name) => of.named(b"entry is not code ", name.as_slice()),
-        Refusal::DataTooBig => line(alloc, b"data too big"),
-        Refusal::TextTooBig => line(alloc, b"text too big"),
-        Refusal::UnsupportedAt(site) => of.site(site, b"unsupported"),
-        Refusal::TlsAt(site) => of.site(site, b"thread-local storage"),
-        Refusal::BadSite(site) => of.site(site, b"bad relocation site"),
-        Refusal::NotCode(site) => of.site(site, b"branch target is not code"),
-        Refusal::NoRestore(site) => of.site(site, b"no nop to restore r2"),
-        Refusal::StubReach(site) => of.site(site, b"stub out of reach"),
-        Refusal::UnknownReloc(site, n) => of.site_number(site, b"unknown relocation ", *n),
-        Refusal::Unresolved(name, site) => of.site_name(site, b"unresolved ", name.as_slice()),
-        Refusal::Overflow(site, value) => of.site_value(site, b"overflow ", *value),
-        Refusal::Memory => Err(Memory),
-    }
+    let of = Lines {
+        alloc,
+        names: FileNames::Words(names),
+    };
+    of.refusal(refusal)
+}
+
+/// The line of a refusal of these files.
+pub fn job_line(alloc: Global, files: &[FileBytes], refusal: &Refusal) -> Result<Vec<u8>, Memory>
+    ensures line { IfOk result (λ text.
+        text.items ≡ refusal_line (names_of_files files.now) refusal.now) }
+    ensures stated { OnOk result (refusal.now ≢ Refusal.Memory) }
+{
+    let of = Lines {
+        alloc,
+        names: FileNames::Files(files),
+    };
+    of.refusal(refusal)
+}
+
+/// The line of a refusal of the file with this name.
+pub fn fault_line(alloc: Global, name: &[u8], refusal: &Refusal) -> Result<Vec<u8>, Memory>
+    ensures line { IfOk result (λ text.
+        text.items ≡ fault_line (named_refusal name.now refusal.now)) }
+    ensures stated { OnOk result (refusal.now ≢ Refusal.Memory) }
+{
+    let of = Lines {
+        alloc,
+        names: FileNames::One(name),
+    };
+    of.refusal(refusal)
 }

@@ -1,15 +1,19 @@
 // What the command does over the files, before it prints.
-ghost use Rattle.std.specs.Prelude.{◌≡◌, ◌≤◌, length, Some, None, IfOk, IfErr, OnOk, string_bytes};
+ghost use Rattle.std.specs.Prelude.{◌≡◌, ◌≤◌, ◌+◌, length, Some, None, IfOk, IfErr, OnOk, string_bytes};
 ghost use Rattle.object_set.specs.Files.{contents_of};
+ghost use Rattle.link_engine.specs.Link.{placement_limit};
+ghost use Rattle.link_engine.specs.Options.{InRange};
+ghost use Rattle.ppc_archive.specs.Expand.{named_files};
+ghost use Rattle.ppclink.specs.Jobs.{names_of_files};
 ghost use Rattle.ppclink.specs.Requests.{request_of, texts, link_to, show_file};
 ghost use Rattle.ppclink.specs.Responses.{view_refusal};
 ghost use Rattle.ppclink.specs.Statuses.{CountsOver, Ticks};
 ghost use Rattle.ppclink.specs.inside.Commands.{link_options, CanLink};
 ghost use Rattle.ppclink.specs.inside.Fetched.{HaveRead};
-ghost use Rattle.ppclink.specs.inside.Reports.{Causes, ReplaceReport, TextReport, ShowsFile};
+ghost use Rattle.ppclink.specs.inside.Reports.{Causes, JobReport, ReplaceReport, TextReport, ShowsFile};
 
 use crate::fetching::{Unfetched, fetch, fetch_files};
-use crate::lines::{refusal_line, unread_line, usage_line};
+use crate::lines::{fault_line, job_line, refusal_line, unread_line, usage_line};
 use crate::report::{Report, text_report, unread_report};
 use crate::running::perform_run;
 use crate::show::shown;
@@ -17,6 +21,7 @@ use crate::words::{Command, LinkOptions, parse};
 use elf64_records::{FILE_LIMIT, ObjectView};
 use link_engine::{FileBytes, Options, Refusal, Steps, link};
 use object_set::refusal_of;
+use ppc_archive::{ChooseFault, choose};
 use ppc_bytes::Memory;
 use ppc_outside::{OutsideError, Store};
 use std::alloc::Global;
@@ -45,30 +50,56 @@ fn options_of(alloc: Global, options: LinkOptions<'_>) -> Result<Options, Memory
     })
 }
 
-// Links files that were fetched, and writes the executable.
+// Links the files of a job, and writes the executable.
+fn link_job<S: Store, L: Ledger>(
+    alloc: Global,
+    out: &str,
+    options: &Options,
+    job: &[FileBytes],
+    store: &mut S,
+    steps: &mut Steps<L>,
+) -> Report
+    requires some { 1 ≤ length job.now }
+    requires few { length job.now ≤ 4096 }
+    requires range { InRange options.now }
+    ensures report { JobReport (S.state store.old) (S.state store.new) out.now options.now
+        (named_files job.now) result }
+    ensures steps { steps.new
+        ≤ steps.old + placement_limit (contents_of job.now) options.now }
+{
+    match link(alloc, job, options, steps) {
+        Ok(linked) => write_out(out, linked.image.as_slice(), store),
+        Err(refusal) => text_report(1, job_line(alloc, job, &refusal)),
+    }
+}
+
+// Links files that were fetched, of which libraries are replaced by their chosen members, and writes the executable.
 fn link_fetched<S: Store, L: Ledger>(
     alloc: Global,
     out: &str,
     options: LinkOptions<'_>,
-    names: &[String],
-    files: &[FileBytes],
+    files: Vec<FileBytes>,
     store: &mut S,
     steps: &mut Steps<L>,
 ) -> Report
-    requires allowed { CanLink (link_options options) (length names.now) }
-    requires count { length files.now ≡ length names.now }
-    requires read { HaveRead (S.state store.old).told (texts names.now) (contents_of files.now) }
+    requires range { InRange (link_options options) }
+    requires few { length files.items ≤ 4096 }
+    requires read { HaveRead (S.state store.old).told (names_of_files files.items)
+        (contents_of files.items) }
     ensures causes { Causes (S.state store.old) (S.state store.new)
-        (Some (link_to out.now (link_options options.entry) (texts names.now))) result }
+        (Some (link_to out.now (link_options options.entry) (names_of_files files.items))) result }
     ensures steps { CountsOver (S.state store.old).told (link_options options.entry)
-        (texts names.now) steps.old steps.new }
+        (names_of_files files.items) steps.old steps.new }
 {
     let Ok(options) = options_of(alloc, options) else {
         return Report::NoMemory;
     };
-    match link(alloc, files, &options, steps) {
-        Ok(linked) => write_out(out, linked.image.as_slice(), store),
-        Err(refusal) => text_report(1, refusal_line(alloc, names, &refusal)),
+    match choose(alloc, files, options.entry.as_bytes()) {
+        Ok(job) => link_job(alloc, out, &options, job.as_slice(), store, steps),
+        Err(ChooseFault::Refused { name, refusal }) => {
+            text_report(1, fault_line(alloc, name.as_slice(), &refusal))
+        }
+        Err(ChooseFault::Memory) => Report::NoMemory,
     }
 }
 
@@ -88,7 +119,7 @@ fn perform_link<S: Store, L: Ledger>(
         (texts names.now) steps.old steps.new }
 {
     match fetch_files(alloc, names, store) {
-        Ok(files) => link_fetched(alloc, out, options, names, files.as_slice(), store, steps),
+        Ok(files) => link_fetched(alloc, out, options, files, store, steps),
         Err(Unfetched::Failed(i)) => text_report(3, unread_line(alloc, names[i].as_str())),
         Err(Unfetched::Memory) => Report::NoMemory,
     }

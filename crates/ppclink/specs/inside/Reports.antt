@@ -11,10 +11,12 @@ use Rattle.ppc_outside.specs.declared.outside.OutsideError.{OutsideError}
 use Rattle.ppc_outside.specs.declared.outside.OutsideError.TheVariants.{Failed, Memory}
 use Rattle.ppclink.specs.declared.report.Report.{Report}
 use Rattle.ppclink.specs.declared.report.Report.TheVariants.{Text, Written, Unwritten, NoMemory}
+use Rattle.link_engine.specs.Options.{LinkOptions}
+use Rattle.ppc_archive.specs.Expand.{NamedFile}
 use Rattle.ppclink.specs.Requests.{Request}
 use Rattle.ppclink.specs.Lines.{unread_line}
-use Rattle.ppclink.specs.Runs.{printed, Executes, event_lines, exit_line, left_line, budget_line, progress_response}
-use Rattle.ppclink.specs.Responses.{show_response, view_refusal}
+use Rattle.ppclink.specs.Runs.{printed, written, Executes, event_lines, exit_line, left_line, budget_line, progress_response}
+use Rattle.ppclink.specs.Responses.{show_response, view_refusal, JobResponds}
 use Rattle.ppclink.specs.Statuses.{KeepsFiles, Says, HasWritten, HasNotWritten, IsOfResponse}
 
 -- why each report comes
@@ -37,6 +39,24 @@ TextReport Is (Text status text) = Is status text.items
 TextReport Is NoMemory = Unit {0}
 TextReport Is Written = ⊥
 TextReport Is Unwritten = ⊥
+
+-- a job's link is refused, with this status and text
+pub record SaysJob (out : List ℕ) (options : LinkOptions) (job : List NamedFile) (status : ℕ) (text : List ℕ) : Type 0 where
+  pub status_is : status ≡ 1
+  pub responds : JobResponds out options job (printed status text)
+
+-- a job's executable
+pub record GivesJob (out : List ℕ) (options : LinkOptions) (job : List NamedFile) (Stored : List ℕ → Type 0) : Type 0 where
+  pub image : List ℕ
+  pub responds : JobResponds out options job (written out image)
+  pub stored : Stored image
+
+-- why a job's link is reported so
+abbrev pub JobReport : StoreState → StoreState → List ℕ → LinkOptions → List NamedFile → Report → Type 0
+JobReport old new out options job (Text status text) = SaysJob out options job status text.items × (new ≡ old)
+JobReport old new out options job Written = GivesJob out options job (IsReplaced old new out)
+JobReport old new out options job Unwritten = GivesJob out options job (λ image. ReplaceFails old new out)
+JobReport old new out options job NoMemory = KeepsFiles old new
 
 -- a file that was fetched is shown
 pub record ShowsFile (name b : List ℕ) (status : ℕ) (text : List ℕ) : Type 0 where

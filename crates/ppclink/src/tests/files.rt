@@ -1,5 +1,5 @@
 // The files that the tables name.
-use elf64_records::constants::{STB_LOCAL, STB_WEAK, STT_FUNC};
+use elf64_records::constants::{SHF_TLS, STB_LOCAL, STB_WEAK, STT_FUNC};
 use object_builder::{FileHeader, Object, Record, Section, Stated, Symbol};
 use ppc_outside::MemStore;
 use std::alloc::Global;
@@ -324,12 +324,54 @@ fn add_programs(alloc: Global, store: &mut MemStore) -> Result<(), Fail> {
     Ok(())
 }
 
+// A library of members with these names, in the form of GNU ar.
+fn library(alloc: Global, members: &[(&str, Vec<u8>)]) -> Result<Vec<u8>, Fail> {
+    let mut bytes = Vec::from_slice(alloc, b"!<arch>\n")?;
+    for (name, member) in members {
+        let size = member.len();
+        let header = format!(in alloc; "{name:<48}{size:<10}`\n")?;
+        bytes.extend_from_slice(header.as_bytes())?;
+        bytes.extend_from_slice(member)?;
+        if size % 2 == 1 {
+            bytes.push(b'\n')?;
+        }
+    }
+    Ok(bytes)
+}
+
+// Libraries: one of a note that is no ELF file, of the smallest object, and of what defines t in a section that can't be linked; one
+// without members; and one with ten bytes that are no header.
+fn add_libraries(alloc: Global, store: &mut MemStore) -> Result<(), Fail> {
+    let tls = Object {
+        sections: &[Section {
+            flags: SECTION.flags | SHF_TLS,
+            ..SECTION
+        }],
+        symbols: &[Symbol {
+            name: b"t",
+            ..START
+        }],
+        ..Object::EMPTY
+    };
+    let note = Vec::from_slice(alloc, b"hello")?;
+    let members = [
+        ("note/", note),
+        ("t.o/", SMALLEST.file(alloc)?),
+        ("tls.o/", tls.file(alloc)?),
+    ];
+    store.add("l.a", &library(alloc, &members)?)?;
+    store.add("empty.a", b"!<arch>\n")?;
+    store.add("cut.a", b"!<arch>\n0123456789")?;
+    Ok(())
+}
+
 /// A store with all the files.
 pub fn files(alloc: Global) -> Result<MemStore, Fail> {
     let mut store = MemStore::new(alloc);
     add_objects(alloc, &mut store)?;
     add_fronts(alloc, &mut store)?;
     add_programs(alloc, &mut store)?;
+    add_libraries(alloc, &mut store)?;
     store.add("in", b"hi\n")?;
     Ok(store)
 }

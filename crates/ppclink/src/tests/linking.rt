@@ -42,6 +42,31 @@ fn links_are_written_or_refused(rt: HostRuntime) -> Result<(), Fail> {
     all_end(&rt, rt.alloc(), LINKS)
 }
 
+/// Libraries among the files of a link. To other commands a library is a file of another kind.
+const LIBRARIES: &str = "\
+link -o x l.a           | | 0 |                                                    | 10000000
+link -o x l.a l.a       | | 0 |                                                    | 10000000
+link -o x dropped.o l.a | | 0 |                                                    | 10000000
+link -o x l.a a.o       | | 0 |                                                    | 10000000
+link -o x late.o l.a    | | 0 |                                                    | 10000004
+link -o x a.o empty.a   | | 0 |                                                    | 10000000
+link -o x empty.a       | | 1 | ppclink: no entry _start                           |
+link -o x -e g a.o l.a  | | 1 | ppclink: no entry g                                |
+link -o x -e t a.o l.a  | | 1 | ppclink: l.a(tls.o) section 1: thread-local storage |
+link -o x u.o l.a       | | 1 | ppclink: u.o section 1 offset 0x8: unresolved u    |
+link -o x a.o u.o l.a   | | 1 | ppclink: a.o and u.o: defined twice _start         |
+link -o x a.o cut.a     | | 1 | ppclink: cut.a: bad archive at 0x8                 |
+link -o x cut.a 3       | | 1 | ppclink: cut.a: bad archive at 0x8                 |
+link -o x 3 cut.a       | | 1 | ppclink: 3: not an ELF file                        |
+link -o x a.o l.a no    | | 3 | ppclink: cannot read no                            |
+show l.a                | | 1 | ppclink: l.a: not an ELF file                      |
+run l.a                 | | 1 | ppclink: l.a: not an executable                    |";
+
+#[test]
+fn libraries_are_replaced_by_their_chosen_members(rt: HostRuntime) -> Result<(), Fail> {
+    all_end(&rt, rt.alloc(), LIBRARIES)
+}
+
 /// Calls that fail, and files that are missing.
 const FAILURES: &str = "\
 link -o x t.o         | store 0   | 3 | ppclink: cannot read t.o  |

@@ -13,3 +13,6 @@ returns-in-Err-Failed-clause-causes g c =
 
 pub returns-in-Err-Failed-clause-steps : goal.returns-in-Err-Failed-clause-steps
 returns-in-Err-Failed-clause-steps g c = counts_none _ _ _ _ _ refl
+
+pub returns-in-Err-Memory-clause-steps : goal.returns-in-Err-Memory-clause-steps
+returns-in-Err-Memory-clause-steps g c = counts_none _ _ _ _ _ refl

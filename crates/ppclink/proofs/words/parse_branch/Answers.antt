@@ -7,7 +7,8 @@ pub returns-in-Some-clause-value : goal.returns-in-Some-clause-value
 unfolding link_with_branch
 returns-in-Some-clause-value c =
     c.parse_toc.ensures.value
-    ∙ ap (λ (b : Option ℕ). link_with_toc c.args.out.now c.args.entry.now b (texts c.in-Some.option.rest.now)) c.branch_span_of.ensures.span
+    ∙ ap (λ (b : Option ℕ). link_with_toc c.args.out.now c.args.entry.now b (texts c.in-Some.option.rest.now))
+    c.branch_span_of.ensures.span
     ∙ ap (link_by_branch c.args.out.now c.args.entry.now (texts c.args.words.now)) c.in-Some.ensures
 
 -- the usual one

@@ -1,0 +1,6 @@
+pub mod Archive
+pub mod Choice
+pub mod Chosen
+pub mod Expand
+pub mod inside
+pub mod laws

@@ -1,0 +1,2 @@
+-- Laws that crates above may cite, with their proofs.
+pub mod OneJob

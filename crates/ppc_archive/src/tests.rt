@@ -1,0 +1,3 @@
+// Libraries, and the members that objects take of them.
+mod choosing;
+mod libraries;
