@@ -61,7 +61,7 @@ job_once : (out : List ℕ) (options : LinkOptions) (job : List NamedFile) (r r'
     JobResponds out options job r' → r ≡ r'
 job_once out options job r r' h k =
     sym h.is ∙ ap (link_response out (names_in_job job)) (links_are_one
-        (contents_in_job job) options h.outcome k.outcome h.links k.links) ∙ k.is
+    (contents_in_job job) options h.outcome k.outcome h.links k.links) ∙ k.is
 
 choice_once : (out : List ℕ) (options : LinkOptions) (choice : Result (List NamedFile) NamedRefusal) (r r' : Response) →
     ChoiceResponds out options choice r → ChoiceResponds out options choice r' → r ≡ r'
@@ -75,7 +75,7 @@ link_once : (out : List ℕ) (options : LinkOptions) (names contents : List (Lis
 link_once out options names contents r r' h k =
     let one = chooses_once (fetched names contents) options.entry h.choice k.choice h.chooses k.chooses in
     choice_once out options k.choice r r' (subst (λ (c : Result (List NamedFile) NamedRefusal). ChoiceResponds out options c r)
-        one h.is) k.is
+    one h.is) k.is
 
 responds_once : (request : Request) (contents : List (List ℕ)) (r r' : Response) →
     Responds request contents r →

@@ -40,7 +40,7 @@ unfoldable pub symbol_line : List ℕ → ℕ → List ℕ
 symbol_line b j =
     let s = symbol_of b j in
     ended (codes "symbol" ▹ decimal j ▹ hex_byte s.info ▹ hex_byte s.other ▹ hex_half s.shndx ▹ hex_long s.value ▹ hex_long
-        s.size ▹ s.name)
+    s.size ▹ s.name)
 
 -- record k of section i: offset, relocation number, symbol and addend
 unfoldable pub record_line : List ℕ → ℕ → ℕ → List ℕ
