@@ -11,6 +11,7 @@ mod list;
 mod prologue;
 mod site;
 
+pub use callees::text_section;
 pub use class::{Callee, Linkage, changes_r2, class_of, entry_offset};
 pub use finding::sites;
 pub use laws::{restored_sites_have_slots, sites_are_in_order, sites_are_sound};

@@ -23,7 +23,8 @@ use Rattle.toc_rewrite.specs.Uses.{number_of, folds_slot, is_folded_load, rewrit
 use Rattle.toc_rewrite.specs.Words.{only_loads, IsRewritten}
 use Rattle.toc_rewrite.specs.laws.Rewritten.{IsGiven, rewritten_may}
 use Rattle.toc_rewrite.specs.laws.Slots.{foldable_parts}
-use Rattle.image_writer.specs.Rewriting.{laid_by, slot_at}
+use Rattle.toc_rewrite.specs.Folds.{slot_at}
+use Rattle.image_writer.specs.Rewriting.{laid_by}
 use Rattle.image_writer.specs.TocLoads.{slot_distance, named_distance, toc_record}
 use Rattle.image_writer.specs.inside.Ready.{AreTextAddresses}
 use Rattle.image_writer.proofs.Slots.{held_reached, word_suits, target_there, target_told, target_offset}

@@ -18,12 +18,12 @@ use Rattle.symbol_table.specs.laws.Text.{text_index_found}
 use Rattle.toc_groups.specs.Values.{is_signed}
 use Rattle.pcrel_rewrite.specs.declared.text_pairs.TextPair.{TextPair}
 use Rattle.pcrel_rewrite.specs.Pairs.{ArePairs}
-use Rattle.pcrel_rewrite.specs.TextPairs.{text_pair}
+use Rattle.pcrel_rewrite.specs.TextPairs.{tail_at, text_pair}
 use Rattle.pcrel_rewrite.specs.Words.{ArePairWords}
 use Rattle.pcrel_rewrite.specs.laws.Pairs.{one_pair_at}
 use Rattle.image_writer.specs.declared.got_loads.LoadWords.{LoadWords}
 use Rattle.image_writer.specs.GotLoads.{offset_of, load_distance, pair_distance, pair_load, near_load, sum_by, load_by, got_load, rewritten_load}
-use Rattle.image_writer.specs.Rewriting.{Rewriting, rewriting_of, tail_at}
+use Rattle.image_writer.specs.Rewriting.{Rewriting, rewriting_of}
 use Rattle.image_writer.specs.inside.Loads.{IsAccessAt, paired_by, paired_load, sum_of}
 use Rattle.image_writer.proofs.Finding.{some_first, none_first, found_is}
 

@@ -33,7 +33,8 @@ use Rattle.toc_rewrite.specs.laws.Entries.{table_passes, entry_passes, record_pa
 use Rattle.toc_rewrite.specs.laws.Slots.{foldable_parts, named_slot, none_named}
 use Rattle.toc_rewrite.proofs.SoundRecords.{sound_field, address_kind}
 use Rattle.symbol_table.specs.declared.target.Target.{Target}
-use Rattle.image_writer.specs.Rewriting.{laid_by, slot_at}
+use Rattle.toc_rewrite.specs.Folds.{slot_at}
+use Rattle.image_writer.specs.Rewriting.{laid_by}
 use Rattle.image_writer.specs.TocLoads.{slot_distance, named_distance}
 use Rattle.image_writer.proofs.Finding.{some_first, none_first, any_picked, found_is as first_is}
 use Rattle.image_writer.proofs.Slots.{section_is, none_passes, number_is}

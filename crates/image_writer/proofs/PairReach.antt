@@ -33,7 +33,8 @@ use Rattle.layout_rounds.specs.Layout.{PlacedText}
 use Rattle.image_writer.specs.GotLoads.{displacement_of, word_by, offset_of, pair_distance, pair_load, sum_by, load_by, rewritten_load}
 use Rattle.image_writer.specs.Job.{IsJob}
 use Rattle.image_writer.specs.Places.{IsTextRecord, RewritesPairs, IsPairLoad, bytes_of}
-use Rattle.image_writer.specs.Rewriting.{Rewriting, tail_at}
+use Rattle.pcrel_rewrite.specs.TextPairs.{tail_at}
+use Rattle.image_writer.specs.Rewriting.{Rewriting}
 use Rattle.image_writer.proofs.FieldsApart.{begin_of, own_section, IsField, one_field}
 use Rattle.image_writer.proofs.InSections.{section_lies}
 use Rattle.image_writer.proofs.LowAddresses.{symbol_low}

@@ -14,7 +14,7 @@ use Rattle.toc_rewrite.specs.Uses.{folds_slot, is_folded_load, rewrites_word, is
 use Rattle.toc_rewrite.specs.Words.{only_loads}
 use Rattle.pcrel_rewrite.specs.declared.text_pairs.TextPair.{TextPair}
 use Rattle.pcrel_rewrite.specs.Pairs.{ArePairs}
-use Rattle.pcrel_rewrite.specs.TextPairs.{text_pair}
+use Rattle.pcrel_rewrite.specs.TextPairs.{tail_at, text_pair}
 use Rattle.pcrel_rewrite.specs.laws.Pairs.{one_pair_at}
 use Rattle.call_sites.specs.declared.site.CallSite.{CallSite}
 use Rattle.toc_groups.specs.Plans.{LaidData}
@@ -24,7 +24,8 @@ use Rattle.layout_rounds.specs.Layout.{PlacedText}
 use Rattle.placed_bytes.specs.Patches.{Patch, all_patched}
 use Rattle.image_writer.specs.declared.got_loads.LoadWords.{LoadWords}
 use Rattle.image_writer.specs.Fields.{text_kind, field_by, field_patch, field_overflow_at, field_overflow}
-use Rattle.image_writer.specs.Rewriting.{no_rewriting, rewriting_of, laid_by, slot_at, tail_at}
+use Rattle.toc_rewrite.specs.Folds.{slot_at}
+use Rattle.image_writer.specs.Rewriting.{no_rewriting, rewriting_of, laid_by}
 use Rattle.image_writer.specs.TocLoads.{slot_distance, named_distance, toc_record, folded_patch}
 use Rattle.image_writer.specs.GotLoads.{offset_of, load_by, rewritten_load}
 use Rattle.image_writer.specs.Records.{load_or_field, record_by, record_patch, overflow_by, text_overflow_at, text_overflow}

@@ -26,7 +26,7 @@ use Rattle.toc_rewrite.specs.declared.loads.TocRecord.{TocRecord}
 use Rattle.toc_rewrite.specs.Uses.{number_of, is_folded_load, rewrites_word, is_rewritten}
 use Rattle.toc_rewrite.specs.Words.{folded_word}
 use Rattle.pcrel_rewrite.specs.Pairs.{IsPair, IsRecognised}
-use Rattle.pcrel_rewrite.specs.TextPairs.{text_pair}
+use Rattle.pcrel_rewrite.specs.TextPairs.{tail_at, text_pair}
 use Rattle.layout_rounds.specs.FarSets.{member}
 use Rattle.layout_rounds.specs.Shapes.{KeyedText}
 use Rattle.layout_rounds.specs.Layout.{PlacedText, section_size}
@@ -37,7 +37,7 @@ use Rattle.image_writer.specs.GotLoads.{offset_of, pair_load, near_load, load_di
 use Rattle.image_writer.specs.Job.{IsJob}
 use Rattle.image_writer.specs.Places.{IsTextRecord, IsNewLoad, RewritesPairs}
 use Rattle.image_writer.specs.Records.{load_or_field, record_by, record_patch}
-use Rattle.image_writer.specs.Rewriting.{Rewriting, tail_at}
+use Rattle.image_writer.specs.Rewriting.{Rewriting}
 use Rattle.image_writer.specs.TocLoads.{toc_record, folded_patch}
 use Rattle.image_writer.proofs.CallClaims.{field_within}
 use Rattle.image_writer.proofs.Claims.{Claims}

@@ -24,7 +24,8 @@ use Rattle.prefixed_insns.specs.Table.{prefix_of, suffix_of}
 use Rattle.pcrel_rewrite.specs.Rewriting.{address_sum}
 use Rattle.placed_bytes.specs.Patches.{Patch, number_patch}
 use Rattle.image_writer.specs.declared.got_loads.LoadWords.{LoadWords}
-use Rattle.image_writer.specs.Rewriting.{Rewriting, tail_at}
+use Rattle.pcrel_rewrite.specs.TextPairs.{tail_at}
+use Rattle.image_writer.specs.Rewriting.{Rewriting}
 
 -- the prefixed mnemonic of a load or store by a displacement, by its opcode and, where they tell forms apart, its last two bits
 abbrev pub prefixed_by : ℕ → ℕ → POp

@@ -37,7 +37,8 @@ use Rattle.image_writer.specs.Fields.{text_kind}
 use Rattle.image_writer.specs.Image.{text_image}
 use Rattle.image_writer.specs.Job.{IsJob}
 use Rattle.image_writer.specs.Records.{record_patches}
-use Rattle.image_writer.specs.Rewriting.{Rewriting, tail_at}
+use Rattle.pcrel_rewrite.specs.TextPairs.{tail_at}
+use Rattle.image_writer.specs.Rewriting.{Rewriting}
 use Rattle.image_writer.specs.TocLoads.{toc_record}
 use Rattle.image_writer.specs.GotLoads.{offset_of, pair_distance, pair_load, rewritten_load}
 

@@ -11,7 +11,8 @@ use Rattle.toc_rewrite.specs.Records.{record_target, record_number, word_at}
 use Rattle.toc_rewrite.specs.Uses.{number_of, is_folded_load}
 use Rattle.toc_rewrite.specs.Words.{only_loads, folded_word}
 use Rattle.placed_bytes.specs.Patches.{Patch, number_patch}
-use Rattle.image_writer.specs.Rewriting.{laid_by, slot_at}
+use Rattle.toc_rewrite.specs.Folds.{slot_at}
+use Rattle.image_writer.specs.Rewriting.{laid_by}
 
 module _ (files : List (List ℕ)) (span : ℕ) (text : List ℕ) where
   -- what a slot holds: the address to which the record goes that fills it

@@ -47,7 +47,8 @@ pub laid_job : (resolved : ResolvedFiles) (options : LinkOptions) (branch toc : 
     groups ≡ plan.groups → sites_refusal resolved.files groups ≡ None → sites ≡ call_sites resolved.files groups → calls ≡ sites →
     IsTextLayout resolved.files plan calls branch text → ArePairs resolved.files pairs →
     IsLaidJob resolved.files options plan calls text pairs
-laid_job resolved options branch toc plan groups sites calls text pairs branch_is toc_is is is_plan_read same_groups none sites_are calls_are laid
+laid_job resolved options branch toc plan groups sites calls text pairs branch_is toc_is is is_plan_read same_groups none sites_are
+    calls_are laid
     pairs_are =
     let files = resolved.files in
     let is_plan : IsPlan files options.toc_span plan =

@@ -133,6 +133,13 @@ impl Pairs {
         Ok(Pairs { heads, tails })
     }
 
+    /// All of them.
+    pub fn as_slice(&self) -> &[TextPair]
+        ensures { result.now ≡ self.now }
+    {
+        self.heads.as_slice()
+    }
+
     /// Where the access of the pair stands whose load is at a place, if one is: the text section's number, and any offset.
     pub fn head(&self, section: u32, offset: u64) -> Option<u64>
         ensures some { IfSome result (λ tail. Contains self.now (text_pair section offset tail)) }

@@ -103,7 +103,7 @@ fn copy_sections(memory: &mut DataMemory, res: &Resolved, plan: &DataPlan)
 }
 
 /// The symbol for which a slot was made, which goes somewhere.
-fn slot_symbol(res: &Resolved, plan: &DataPlan, group: usize, k: usize) -> SymbolId
+pub fn slot_symbol(res: &Resolved, plan: &DataPlan, group: usize, k: usize) -> SymbolId
     requires plan { IsPlan res.now.files plan.now.span plan.now }
     requires records { records_refusal res.now.files ≡ None }
     requires group { group < group_count res.now.files plan.now.span }
@@ -119,7 +119,7 @@ fn slot_symbol(res: &Resolved, plan: &DataPlan, group: usize, k: usize) -> Symbo
 }
 
 /// Where a slot lies.
-fn slot_place(res: &Resolved, plan: &DataPlan, group: usize, k: usize) -> u64
+pub fn slot_place(res: &Resolved, plan: &DataPlan, group: usize, k: usize) -> u64
     requires plan { IsPlan res.now.files plan.now.span plan.now }
     requires group { group < group_count res.now.files plan.now.span }
     requires slot { k < length (group_slots res.now.files plan.now.span group) }
@@ -240,7 +240,7 @@ fn put_field(
 }
 
 /// The kind of a record whose field is in data and has bytes.
-fn field_kind(res: &Resolved, id: RecordId) -> Option<Kind>
+pub fn field_kind(res: &Resolved, id: RecordId) -> Option<Kind>
     requires { IsRecord res.now.files id }
     ensures some { IfSome result (IsDataField res.now.files id) }
     ensures none { IfNone result ((kind : Kind) → IsDataField res.now.files id kind → ⊥) }

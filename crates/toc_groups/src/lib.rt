@@ -14,12 +14,13 @@ mod slots;
 mod toc_ends;
 mod values;
 
-pub use contents::{data_bytes, filled_field, site_of};
+pub use contents::{data_bytes, field_kind, filled_field, site_of, slot_place, slot_symbol};
 pub use laws::{
     data_is_one, data_is_placed, data_segments_are_placed, parts_are_apart, plans_are_read,
     tests_are_the_table,
 };
 pub use plan::{DataPlan, lay_data};
+pub use slots::SLOT_SIZE;
 pub use values::{
     address_of, field_address, holds_value, record_of, record_value, section_of, symbol_address,
 };

@@ -114,7 +114,7 @@ impl DataPlan {
     }
 
     /// The address of a piece.
-    pub(crate) fn piece_address(&self, piece: Piece) -> u64
+    pub fn piece_address(&self, piece: Piece) -> u64
         requires { IsLaidPiece self.now piece }
         ensures { result ≡ slice_index self.now.pieces (piece_index self.now piece) }
     {
@@ -155,14 +155,14 @@ impl DataPlan {
     }
 
     /// How many TOC groups there are.
-    pub(crate) fn group_count(&self) -> usize
+    pub fn group_count(&self) -> usize
         ensures { result ≡ length self.now.named }
     {
         self.groups.groups.len()
     }
 
     /// The symbols for which the slots of a group were made.
-    pub(crate) fn group_slots(&self, group: usize) -> &[SymbolId]
+    pub fn group_slots(&self, group: usize) -> &[SymbolId]
         requires { group < length self.now.named }
         ensures { slice_get self.now.named group ≡ Some result.now }
     {
@@ -170,7 +170,7 @@ impl DataPlan {
     }
 
     /// Where a group starts.
-    pub(crate) fn group_start(&self, group: usize) -> u64
+    pub fn group_start(&self, group: usize) -> u64
         requires { group < length self.now.starts }
         ensures { result ≡ slice_index self.now.starts group }
     {

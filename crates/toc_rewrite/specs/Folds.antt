@@ -3,6 +3,7 @@
 use Rattle.std.specs.Prelude.{ℕ, ℤ, pos, neg_ℤ, ◌+◌, ◌%◌, ◌^◌, ◌-ℤ◌, ◌+ℤ◌, int_lt, Bool, true, false, not, List, ◌&&◌, ◌==◌, nat_le, nat_lt, filter, Option, None, Some}
 use Rattle.std.specs.Int.{cast_signed, w64}
 use Rattle.std.specs.List.{list_any}
+use Rattle.elf64_records.specs.First.{when, first_in}
 use Rattle.object_set.specs.declared.places.RecordId.{RecordId}
 use Rattle.object_set.specs.declared.sort.Sort.{Sort}
 use Rattle.object_set.specs.declared.sort.Sort.TheVariants.{Text, Zeroed, Toc, Writable, ReadOnly, Dropped}
@@ -114,6 +115,11 @@ fills_foldable laid r =
 -- the foldable slots, each told by the one record that fills it, in record order
 abbrev pub slot_records : LaidFiles → List RecordId
 slot_records laid = filter (fills_foldable laid) (all_records laid.files)
+
+-- the one of these slots of a file that begins at a number
+abbrev pub slot_at : LaidFiles → List RecordId → ℕ → Option ℕ → Option RecordId
+slot_at laid slots file None = None
+slot_at laid slots file (Some number) = first_in (λ s. when (s.file == file && slot_address laid s == number) s) slots
 
 -- a record fills the slot at an offset of a section of a file
 abbrev pub fills_at : List (List ℕ) → ℕ → ℕ → ℕ → RecordId → Bool

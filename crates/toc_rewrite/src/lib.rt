@@ -16,8 +16,8 @@ mod words;
 pub use folds::{Folds, foldable};
 pub use found::Slot;
 pub use laws::{halves_reach, rewritten_words_may_be, slots_are_only_loaded};
-pub use loads::TocRecord;
-pub use words::{fold_word, only_loads, target_register};
+pub use loads::{TocRecord, is_toc_load};
+pub use words::{ADDI, ADDIS, base_register, fold_word, only_loads, suits, target_register};
 
 #[cfg(test)]
 mod tests;

@@ -17,7 +17,7 @@ pub struct TocRecord {
 }
 
 /// Whether a word is `ld` from the TOC base itself.
-fn is_toc_load(word: u32) -> bool
+pub fn is_toc_load(word: u32) -> bool
     ensures { result ≡ is_toc_load word }
 {
     is_ld(word) && base_register(word) == TOC_REGISTER

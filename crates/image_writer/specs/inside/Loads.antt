@@ -10,7 +10,7 @@ use Rattle.pcrel_rewrite.specs.Rewriting.{address_sum}
 use Rattle.pcrel_rewrite.specs.Words.{IsShortWord}
 use Rattle.image_writer.specs.declared.got_loads.LoadWords.{LoadWords}
 use Rattle.image_writer.specs.GotLoads.{displacement_of, access_form, load_words}
-use Rattle.image_writer.specs.Rewriting.{tail_at}
+use Rattle.pcrel_rewrite.specs.TextPairs.{tail_at}
 
 -- the word at an offset of a section's bytes is a load or store, behind the one at another
 pub record IsAccessAt (bytes : List ℕ) (head tail : ℕ) : Type 0 where
