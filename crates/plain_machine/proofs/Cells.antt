@@ -87,7 +87,8 @@ number_told (cell.Difference p m i) n false h = refl
 number_told cell.Junk n true h = cc
 number_told cell.Junk n false h = refl
 
-with_both : (b c : Bool) (n : ℕ) (ns : List ℕ) → with_number (cond b (Some n) None) (cond c (Some ns) None) ≡ cond (b && c) (Some (n ∷ ns)) None
+with_both : (b c : Bool) (n : ℕ) (ns : List ℕ) → with_number (cond b (Some n) None) (cond c (Some ns) None) ≡ cond (b && c)
+    (Some (n ∷ ns)) None
 with_both true true n ns = refl
 with_both true false n ns = refl
 with_both false c n ns = refl
@@ -98,7 +99,8 @@ pub cells_numbers :
     cell_numbers (bytes_from (λ a. told (o a) (byte a)) at n) ≡ cond (are_numbers o at n) (Some (bytes_from byte at n)) None
 cells_numbers o byte at zero = refl
 cells_numbers o byte at (suc n) =
-    ap (λ x. with_number x (cell_numbers (bytes_from (λ a. told (o a) (byte a)) (at + 1) n))) (number_told (o at) (byte at) (is_number (o at)) refl)
+    ap (λ x. with_number x (cell_numbers (bytes_from (λ a. told (o a) (byte a)) (at + 1) n)))
+    (number_told (o at) (byte at) (is_number (o at)) refl)
     ∙ ap (with_number (cond (is_number (o at)) (Some (byte at)) None)) (cells_numbers o byte (at + 1) n)
     ∙ with_both (is_number (o at)) (are_numbers o (at + 1) n) (byte at) (bytes_from byte (at + 1) n)
 
@@ -114,9 +116,11 @@ not_false : (b : Bool) → not b ≡ true → b ≡ false
 not_false true h = cc
 not_false false h = refl
 
-special_at : (cells : List Cell) (i : ℕ) (c d : Cell) (n : ℕ) → are_special cells ≡ true → i < length cells → told (slice_index_or cells i c) n ≡ slice_index_or cells i d
+special_at : (cells : List Cell) (i : ℕ) (c d : Cell) (n : ℕ) → are_special cells ≡ true → i < length cells →
+    told (slice_index_or cells i c) n ≡ slice_index_or cells i d
 special_at [] i c d n h within = absurd (omega (arith, within))
-special_at (x ∷ cells) zero c d n h within = special_told x n (not_false (is_number x) (both_true (not (is_number x)) (are_special cells) h).0)
+special_at (x ∷ cells) zero c d n h within = special_told x n (not_false (is_number x)
+    (both_true (not (is_number x)) (are_special cells) h).0)
 special_at (x ∷ cells) (suc i) c d n h within =
     special_at cells i c d n (both_true (not (is_number x)) (are_special cells) h).1 (omega (arith, within))
 
@@ -128,7 +132,8 @@ pub special_stand :
 special_stand o o' byte at a cells special h =
     ap (λ c. told c (byte a)) h ∙ by (nat_le at a && nat_lt a (at + length cells)) refl where
       by : (b : Bool) → (nat_le at a && nat_lt a (at + length cells)) ≡ b →
-          told (cond b (slice_index_or cells (a - at) (o a)) (o a)) (byte a) ≡ cond b (slice_index_or cells (a - at) (told (o a) (byte a))) (told (o a) (byte a))
+          told (cond b (slice_index_or cells (a - at) (o a)) (o a)) (byte a) ≡ cond b
+          (slice_index_or cells (a - at) (told (o a) (byte a))) (told (o a) (byte a))
       by true e =
           let inside = both_true (nat_le at a) (nat_lt a (at + length cells)) e in
           let i0 = inside.0 in
@@ -136,7 +141,8 @@ special_stand o o' byte at a cells special h =
           special_at cells (a - at) (o a) (told (o a) (byte a)) (byte a) special (grind (arith, nat_tests, i0, i1))
       by false e = refl
 
-map_at : (bytes : List ℕ) (i n : ℕ) (c : Cell) → i < length bytes → cell.Number (slice_index_or bytes i n) ≡ slice_index_or (map cell.Number bytes) i c
+map_at : (bytes : List ℕ) (i n : ℕ) (c : Cell) → i < length bytes → cell.Number (slice_index_or bytes i n) ≡ slice_index_or
+    (map cell.Number bytes) i c
 map_at [] i n c within = absurd (omega (arith, within))
 map_at (b ∷ bytes) zero n c within = refl
 map_at (b ∷ bytes) (suc i) n c within = map_at bytes i n c (omega (arith, within))
@@ -153,7 +159,8 @@ pub numbers_stand :
     told (o' a) (byte' a) ≡ put (λ x. told (o x) (byte x)) at (map cell.Number bytes) a
 numbers_stand o o' byte byte' at a bytes inside outside h =
     ap (told (o' a)) h ∙ by (nat_le at a) (nat_lt a (at + length bytes)) refl refl
-    ∙ ap (λ n. cond (nat_le at a && nat_lt a (at + n)) (slice_index_or (map cell.Number bytes) (a - at) (told (o a) (byte a))) (told (o a) (byte a)))
+    ∙ ap (λ n. cond (nat_le at a && nat_lt a (at + n)) (slice_index_or (map cell.Number bytes) (a - at) (told (o a) (byte a)))
+    (told (o a) (byte a)))
     (sym (length_map bytes)) where
       by : (x y : Bool) → nat_le at a ≡ x → nat_lt a (at + length bytes) ≡ y →
           told (o' a) (cond (x && y) (slice_index_or bytes (a - at) (byte a)) (byte a))
@@ -193,7 +200,8 @@ pub storing_allowed :
 storing_allowed ranges kept at room some h =
     (both_true (allows Storing at room ranges) _ (or_second (room == 0) _ (not_zero room some) h)).0
 
-pub range_allowed : (ranges : List Range) (purpose : Purpose) (at room : ℕ) → allows purpose at room ranges ≡ true → allows_range (within ranges) purpose at room ≡ true
+pub range_allowed : (ranges : List Range) (purpose : Purpose) (at room : ℕ) → allows purpose at room ranges ≡ true →
+    allows_range (within ranges) purpose at room ≡ true
 range_allowed ranges purpose at room h = ap (λ b. (room == 0) || b) h ∙ or_true (room == 0) where
   or_true : (b : Bool) → (b || true) ≡ true
   or_true true = refl
@@ -245,7 +253,8 @@ pub or_is_true : (b : Bool) → (b || true) ≡ true
 or_is_true true = refl
 or_is_true false = refl
 
-pub part_allowed : (ranges : List Range) (at count k : ℕ) → k < count → allows Loading at count ranges ≡ true → allows Loading (at + k) 1 ranges ≡ true
+pub part_allowed : (ranges : List Range) (at count k : ℕ) → k < count → allows Loading at count ranges ≡ true →
+    allows Loading (at + k) 1 ranges ≡ true
 part_allowed [] at count k h e = cc
 part_allowed (r ∷ ranges) at count k h e =
     by (either (holds Loading at count r) (allows Loading at count ranges) e) (part_allowed ranges at count k h) where
@@ -273,7 +282,8 @@ cells_beside f (x ∷ cells) a (suc i) c h =
     ∙ cells_beside f cells a i c (omega (arith, h))
     ∙ ap (λ n. same_cell (f a) (slice_index_or cells i c) && same_cells (bytes_from f (a + 1) n) (drop (suc i) cells)) (sym more)
 
-pub none_beside : (f : ℕ → Cell) (cells : List Cell) (a i : ℕ) → length cells ≤ i → same_cells (bytes_from f a (length cells - i)) (drop i cells) ≡ true
+pub none_beside : (f : ℕ → Cell) (cells : List Cell) (a i : ℕ) → length cells ≤ i →
+    same_cells (bytes_from f a (length cells - i)) (drop i cells) ≡ true
 none_beside f cells a i h =
     let none : length cells - i ≡ 0 = omega (arith, h) in
     ap (λ n. same_cells (bytes_from f a n) (drop i cells)) none ∙ ap (same_cells []) (none_dropped cells i h) where

@@ -20,7 +20,8 @@ put_both :
     length cells ≤ 8 →
     first ≡ at / 8 →
     last ≡ (at + length cells - 1) / 8 →
-    cond y (cond z (slice_index_or cells (a - at) (cond x (cond z (slice_index_or cells (a - at) c) c) c)) (cond x (cond z (slice_index_or cells (a - at) c) c) c))
+    cond y (cond z (slice_index_or cells (a - at) (cond x (cond z (slice_index_or cells (a - at) c) c) c))
+    (cond x (cond z (slice_index_or cells (a - at) c) c) c))
     (cond x (cond z (slice_index_or cells (a - at) c) c) c)
     ≡ cond z (slice_index_or cells (a - at) c) c
 put_both first last at a cells c true true false p q r few f l = refl
@@ -54,5 +55,6 @@ pub put_in_both :
 put_in_both old mid one two first last at a cells same h k few f l =
     k
     ∙ ap (λ c. cond (a / 8 == last) (cond (nat_le at a && nat_lt a (at + length cells)) (slice_index_or cells (a - at) c) c) c) h
-    ∙ put_both first last at a cells (mid a) (a / 8 == first) (a / 8 == last) (nat_le at a && nat_lt a (at + length cells)) refl refl refl few f l
+    ∙ put_both first last at a cells (mid a) (a / 8 == first) (a / 8 == last) (nat_le at a && nat_lt a (at + length cells)) refl refl refl
+    few f l
     ∙ ap (λ c. cond (nat_le at a && nat_lt a (at + length cells)) (slice_index_or cells (a - at) c) c) same

@@ -10,7 +10,8 @@ use Rattle.plain_machine.specs.inside.Kept.{AreWithin}
 not_below : (n m : ℕ) → m ≤ n → nat_lt n m ≡ false
 not_below n m h = grind (arith, nat_tests)
 
-none_meets : (ranges : List AddressRange) (at count : ℕ) → ((i : ℕ) (r : AddressRange) → slice_get ranges i ≡ Some r → meets at count r ≡ false) →
+none_meets : (ranges : List AddressRange) (at count : ℕ) → ((i : ℕ) (r : AddressRange) → slice_get ranges i ≡ Some r →
+    meets at count r ≡ false) →
     list_any (meets at count) ranges ≡ false
 none_meets [] at count h = refl
 none_meets (r ∷ ranges) at count h =

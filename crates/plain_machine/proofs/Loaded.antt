@@ -31,7 +31,8 @@ module _ (m : PlainMemory) (width : Width) (sign : Sign) (at : ℕ) where
   allowed = allows Loading at (bytes_of width) (ranges_of m.numbers.regions.items)
 
   read_by : (v : PlainValue) → allowed ≡ true → v ≡ joined_by width sign cells (cell_numbers cells) → Some v ≡ value_read width sign at m
-  read_by v h e = sym (ap (λ b. cond b (Some (joined_by width sign cells (cell_numbers cells))) None) (true_and allowed ∙ h) ∙ ap Some (sym e))
+  read_by v h e = sym (ap (λ b. cond b (Some (joined_by width sign cells (cell_numbers cells))) None) (true_and allowed ∙ h)
+      ∙ ap Some (sym e))
 
   pub loaded_number_at :
       (n w : ℕ) →

@@ -14,7 +14,8 @@ all_numbers f at (suc n) h =
     ∙ all_numbers f (at + 1) n (λ a from below. h a (omega arith) (omega arith))
 
 -- and each is where all are
-first_or_later : (f : ℕ → Cell) (at a : ℕ) (b c : Bool) → is_number (f at) ≡ b → (b && c) ≡ true → at ≤ a → (at + 1 ≤ a → c ≡ true → is_number (f a) ≡ true) → is_number (f a) ≡ true
+first_or_later : (f : ℕ → Cell) (at a : ℕ) (b c : Bool) → is_number (f at) ≡ b → (b && c) ≡ true → at ≤ a →
+    (at + 1 ≤ a → c ≡ true → is_number (f a) ≡ true) → is_number (f a) ≡ true
 first_or_later f at a true true p e from later = by_place (a - at) refl where
   by_place : (k : ℕ) → a - at ≡ k → is_number (f a) ≡ true
   by_place zero z = subst (λ x. is_number (f x) ≡ true) (let same : at ≡ a = omega (arith, z, from) in same) p
@@ -25,7 +26,8 @@ first_or_later f at a false c p e from later = cc
 pub each_number : (f : ℕ → Cell) (at n a : ℕ) → are_numbers f at n ≡ true → at ≤ a → a < at + n → is_number (f a) ≡ true
 each_number f at zero a h from below = absurd (omega arith)
 each_number f at (suc n) a h from below =
-    first_or_later f at a (is_number (f at)) (are_numbers f (at + 1) n) refl h from (λ later rest. each_number f (at + 1) n a rest later (omega arith))
+    first_or_later f at a (is_number (f at)) (are_numbers f (at + 1) n) refl h from
+    (λ later rest. each_number f (at + 1) n a rest later (omega arith))
 
 -- one turn further
 pub next_number :
@@ -52,12 +54,13 @@ pub untouched_numbers :
     is_some (get_at o (at / 8)) ≡ false →
     is_some (get_at o ((at + n - 1) / 8)) ≡ false →
     are_numbers (other_at o) at n ≡ true
-untouched_numbers o at n few some first last = all_numbers (other_at o) at n (λ a from below. by_doubleword a from below (a / 8 == at / 8) refl) where
-  by_doubleword : (a : ℕ) → at ≤ a → a < at + n → (b : Bool) → (a / 8 == at / 8) ≡ b → is_number (other_at o a) ≡ true
-  by_doubleword a from below true e =
-      let p : a / 8 ≡ at / 8 = grind (arith, nat_tests, e) in
-      none_there (get_at o (a / 8)) (a % 8) (ap (λ q. is_some (get_at o q)) p ∙ first)
-  by_doubleword a from below false e =
-      let ne : a / 8 ≢ at / 8 = grind (arith, nat_tests, e) in
-      let p : a / 8 ≡ (at + n - 1) / 8 = omega (arith, few, some, from, below, ne) in
-      none_there (get_at o (a / 8)) (a % 8) (ap (λ q. is_some (get_at o q)) p ∙ last)
+untouched_numbers o at n few some first last = all_numbers (other_at o) at n
+    (λ a from below. by_doubleword a from below (a / 8 == at / 8) refl) where
+      by_doubleword : (a : ℕ) → at ≤ a → a < at + n → (b : Bool) → (a / 8 == at / 8) ≡ b → is_number (other_at o a) ≡ true
+      by_doubleword a from below true e =
+          let p : a / 8 ≡ at / 8 = grind (arith, nat_tests, e) in
+          none_there (get_at o (a / 8)) (a % 8) (ap (λ q. is_some (get_at o q)) p ∙ first)
+      by_doubleword a from below false e =
+          let ne : a / 8 ≢ at / 8 = grind (arith, nat_tests, e) in
+          let p : a / 8 ≡ (at + n - 1) / 8 = omega (arith, few, some, from, below, ne) in
+          none_there (get_at o (a / 8)) (a % 8) (ap (λ q. is_some (get_at o q)) p ∙ last)

@@ -107,7 +107,8 @@ saves_by old new base at Refused may none s = record {
 }
 
 -- a restore that finds what it needs
-saved_there : {S : Type 0} (o : Option ℕ) (at : ℕ) (go : ℕ → Next S) → frame_save o ≡ Some at → need o why.Value (λ frame. go (sum_address frame toc_save)) ≡ go at
+saved_there : {S : Type 0} (o : Option ℕ) (at : ℕ) (go : ℕ → Next S) → frame_save o ≡ Some at →
+    need o why.Value (λ frame. go (sum_address frame toc_save)) ≡ go at
 saved_there None at go h = cc
 saved_there (Some frame) at go h = ap go (some_is h) where
   some_is : Some (sum_address frame toc_save) ≡ Some at → sum_address frame toc_save ≡ at
@@ -133,7 +134,8 @@ restores size_of m s site base at own number bytes there h k either =
     let go : ℕ → Next PlainState = λ a. check (memory_may m Loading a 8) why.Load (check (is_saved s site base a) why.Restore
     (Went (with_result (places size_of) 4 s toc_pointer (Number base) false))) in
     saved_there (number_of (slice_index_or s.registers stack_pointer (Number 0))) at go there
-    ∙ ap (λ t. check t why.Load (check (is_saved s site base at) why.Restore (Went (with_result (places size_of) 4 s toc_pointer (Number base) false)))) a.0
+    ∙ ap (λ t. check t why.Load (check (is_saved s site base at) why.Restore
+    (Went (with_result (places size_of) 4 s toc_pointer (Number base) false)))) a.0
     ∙ ap (λ t. check t why.Restore (Went (with_result (places size_of) 4 s toc_pointer (Number base) false)))
     (ap (λ t. t || same_cells (bytes_from s.byte at 8) (number_cells base)) (cells (slot_cells site) ∙ a.1)
     ∙ ap (λ t. own || t) (cells (number_cells base) ∙ b.1) ∙ either)

@@ -11,15 +11,17 @@ mod memory;
 mod others;
 mod perform;
 mod place;
+mod pointer;
 mod same;
 mod start;
 mod state;
 mod value;
 
 pub use action::{Action, Effect, FullCall, Need};
-pub use kept::AddressRange;
+pub use kept::{AddressRange, Kept};
 pub use machine::{Performed, PlainMachine};
 pub use place::TextPlace;
+pub use pointer::{PlacedPointer, Pointer};
 pub use start::Program;
 pub use value::{Cell, Part, PartTarget, PlainValue};
 

@@ -44,6 +44,13 @@ impl PlainMachine {
         &self.events
     }
 
+    /// The status with which the run has ended, if it has.
+    pub fn ended(&self) -> Option<u8>
+        ensures { result ≡ self.now.ended }
+    {
+        self.ended
+    }
+
     /// The place of the next instruction.
     pub fn place(&self) -> TextPlace
         ensures { result ≡ self.now.core.at }

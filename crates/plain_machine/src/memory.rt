@@ -6,7 +6,7 @@ ghost use Rattle.power_machine.specs.Memory.{allows_range, bytes_from};
 ghost use Rattle.plain_machine.specs.Plain.{split, cell_numbers, joined_code, joined_difference, joined_pieces};
 ghost use Rattle.plain_machine.specs.Values.{same_cells, code_cells, difference_cells};
 ghost use Rattle.plain_machine.specs.inside.Others.{other_at, are_numbers};
-ghost use Rattle.plain_machine.specs.inside.Memory.{cell_at, memory_may, value_read, held_at, Stores, Fills, IsSame, are_special};
+ghost use Rattle.plain_machine.specs.inside.Memory.{cell_at, memory_may, value_read, held_at, Stores, Holds, IsSame, are_special};
 ghost use Rattle.plain_machine.specs.declared.value.Cell.TheVariants as cell;
 
 use crate::kept::Kept;
@@ -29,10 +29,10 @@ pub struct PlainMemory {
 }
 
 /// Bytes of which nothing is known.
-const JUNK: [Cell; 8] = [Cell::Junk; 8];
+pub const JUNK: [Cell; 8] = [Cell::Junk; 8];
 
 /// The eight bytes of the address of a place.
-fn code_cells(place: TextPlace) -> [Cell; 8]
+pub fn code_cells(place: TextPlace) -> [Cell; 8]
     ensures { result ≡ code_cells place }
 {
     [
@@ -48,7 +48,7 @@ fn code_cells(place: TextPlace) -> [Cell; 8]
 }
 
 /// The four bytes of the address of a place less a number.
-fn difference_cells(to: TextPlace, from: u64) -> [Cell; 4]
+pub fn difference_cells(to: TextPlace, from: u64) -> [Cell; 4]
     ensures { result ≡ difference_cells to from }
 {
     [
@@ -172,6 +172,20 @@ impl PlainMemory {
         self.allows(Purpose::Storing, at, count)
     }
 
+    /// Puts up to eight cells at an address, none of which is a number, whatever may be stored there. Where memory is refused all stays
+    /// as it was.
+    pub fn hold(&mut self, at: u64, cells: &[Cell]) -> Result<(), AllocError>
+        requires low { at < 2 ^ 63 }
+        requires some { 0 < length cells.now }
+        requires few { length cells.now ≤ 8 }
+        requires special { are_special cells.now ≡ true }
+        ensures held { OnOk result (Holds self.old self.new at cells.now) }
+        ensures refused { OnErr result (IsSame self.old self.new) }
+    {
+        self.others.put(at, cells)?;
+        Ok(())
+    }
+
     /// Puts up to eight cells at an address, none of which is a number.
     pub fn put(&mut self, at: u64, cells: &[Cell]) -> Stored
         requires some { 0 < length cells.now }
@@ -182,7 +196,7 @@ impl PlainMemory {
         if !self.may_store(at, cells.len() as u64) {
             return Stored::Outside;
         }
-        match self.others.put(at, cells) {
+        match self.hold(at, cells) {
             Ok(()) => Stored::Whole,
             Err(_) => Stored::Refused,
         }
@@ -223,7 +237,7 @@ impl PlainMemory {
     pub fn fill(&mut self, at: u64, room: u64, bytes: &[u8]) -> Result<(), AllocError>
         requires fits { length bytes.now ≤ room }
         requires allowed { allows_range (memory_may self.old) Storing at room ≡ true }
-        ensures filled { OnOk result (Fills self.old self.new at bytes.now) }
+        ensures filled { OnOk result (Holds self.old self.new at (map cell.Number bytes.now)) }
         ensures refused { OnErr result (IsSame self.old self.new) }
     {
         if bytes.is_empty() {

@@ -1,14 +1,17 @@
 // Values, and memory that holds them.
 
+use crate::action::{Action, Effect, FullCall, Need};
 use crate::compute::{calculate, order_of};
 use crate::kept::{AddressRange, Kept};
+use crate::machine::{Performed, PlainMachine};
 use crate::memory::PlainMemory;
 use crate::others::Others;
 use crate::place::TextPlace;
 use crate::same::same_value;
+use crate::start::Program;
 use crate::value::PlainValue;
 use power_insns::meaning::{Function, Sign, Width};
-use power_machine::{AddressSpace, Stored};
+use power_machine::{AddressSpace, Reason, Stored, World};
 use std::process::Abort;
 use std::test::Fail;
 
@@ -94,5 +97,58 @@ fn an_address_is_loaded_whole_and_lost_where_a_number_is_stored_over(
             Stored::Outside
         )
     );
+    Ok(())
+}
+
+/// A call to the first text section, whose callee is entered with its own address, and which saves the TOC base.
+const CALL: Action = Action {
+    first: Some(Need {
+        register: 12,
+        value: PlainValue::Code(PLACE),
+        reason: Reason::Value,
+    }),
+    second: None,
+    effect: Effect::Call(FullCall {
+        to: TextPlace {
+            section: 0,
+            offset: 8,
+        },
+        link: true,
+        enters: true,
+        saves: Some(0x1000_8000),
+    }),
+};
+
+#[test]
+fn a_machine_starts_at_its_entry_and_a_call_goes_to_its_callee(
+    rt: HostRuntime,
+) -> Result<(), Fail> {
+    let alloc = rt.alloc();
+    let mut sizes = Vec::new(alloc);
+    sizes.push(0x10)?;
+    sizes.push(0x28)?;
+    let program = Program {
+        entry: PLACE,
+        sizes,
+        kept: Vec::new(alloc),
+    };
+    let mut machine = PlainMachine::start(alloc, program, Vec::new(alloc))?;
+    assert!(rt; machine.place().section == 1 && machine.place().offset == 0x20);
+    let mut world = World::new(Vec::new(alloc), Vec::new(alloc));
+    assert!(rt; matches!(machine.perform(&CALL, &mut world), Performed::Went));
+    assert!(rt; machine.place().section == 0 && machine.place().offset == 8);
+    let registers = machine.core.registers;
+    let callee = PlainValue::Code(TextPlace {
+        section: 0,
+        offset: 8,
+    });
+    assert!(rt; same_value(registers[12], callee));
+    assert!(rt; same_value(registers[32], PlainValue::Code(NEXT)));
+    let saved = machine
+        .core
+        .memory
+        .load(Width::Long, Sign::Unsigned, 0x7FFF_F018);
+    assert!(rt; saved.is_some());
+    assert!(rt; machine.events().is_empty());
     Ok(())
 }

@@ -54,7 +54,8 @@ sum_in (Some b) None = None
 sum_in (Some b) (Some o) = Some (sum_address b o)
 
 abbrev pub address_by : PlainState → Operand → Operand → Option ℕ
-address_by s base offset = sum_in (number_of (value_of (places (λ section. 0)) s base)) (number_of (value_of (places (λ section. 0)) s offset))
+address_by s base offset = sum_in (number_of (value_of (places (λ section. 0)) s base))
+    (number_of (value_of (places (λ section. 0)) s offset))
 
 -- whether a bit that is known is as a condition wants it
 abbrev pub met_by : Condition → Option Bool → Option Bool

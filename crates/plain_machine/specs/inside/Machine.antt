@@ -1,6 +1,7 @@
 -- What the struct of the machine of places stands for, and what its calls come to.
-use Rattle.std.specs.Prelude.{◌≡◌, ℕ, true, false, drop, slice_index_or, Option, Some, None}
+use Rattle.std.specs.Prelude.{◌≡◌, ℕ, true, false, List, drop, slice_index_or, Option, Some, None}
 use Rattle.power_machine.specs.declared.reason.Reason.{Reason}
+use Rattle.power_machine.specs.declared.world.Event.{Event}
 use Rattle.power_machine.specs.declared.world.World.{World}
 use Rattle.power_machine.specs.Calls.{Asked}
 use Rattle.plain_machine.specs.declared.calls.Request.{Request}
@@ -36,6 +37,19 @@ run_of m w =
 
 abbrev pub machine_may : PlainMachine → Permission
 machine_may m = core_may m.core
+
+-- what it holds, the sizes of its text sections, its calls, and its status where it has ended
+abbrev pub machine_state : PlainMachine → PlainState
+machine_state m = plain_state m.core
+
+abbrev pub machine_sizes : PlainMachine → List ℕ
+machine_sizes m = m.core.sizes.items
+
+abbrev pub machine_events : PlainMachine → List Event
+machine_events m = m.events.items
+
+abbrev pub machine_ended : PlainMachine → Option ℕ
+machine_ended m = m.ended
 
 abbrev pub went_outcome : Option ℕ → Performed
 went_outcome None = performed.Went

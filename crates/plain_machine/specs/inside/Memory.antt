@@ -1,5 +1,5 @@
 -- What memory stands for.
-use Rattle.std.specs.Prelude.{◌≡◌, ℕ, Bool, true, false, ◌&&◌, not, List, [], ◌∷◌, map, Option, Some, None, if◌then◌else◌}
+use Rattle.std.specs.Prelude.{◌≡◌, ℕ, Bool, true, false, ◌&&◌, not, List, [], ◌∷◌, Option, Some, None, if◌then◌else◌}
 use Rattle.power_insns.specs.declared.meaning.Width.{Width}
 use Rattle.power_insns.specs.declared.meaning.Sign.{Sign}
 use Rattle.power_insns.specs.Arithmetic.{bytes_of}
@@ -47,6 +47,11 @@ pub record IsSame (old new : PlainMemory) : Type 0 where
   pub cells_are : cell_at new ≡ cell_at old
   pub same_may : memory_may new ≡ memory_may old
 
+-- cells stand at an address now
+pub record Holds (old new : PlainMemory) (at : ℕ) (cells : List Cell) : Type 0 where
+  pub cells_are : cell_at new ≡ put (cell_at old) at cells
+  pub same_may : memory_may new ≡ memory_may old
+
 -- cells stand at an address now, where so many may be stored
 pub record HasStored (old new : PlainMemory) (at room : ℕ) (cells : List Cell) : Type 0 where
   pub allowed : memory_may old Storing at room ≡ true
@@ -62,11 +67,6 @@ abbrev pub Stores : PlainMemory → PlainMemory → ℕ → ℕ → List Cell �
 Stores old new at room cells Whole = HasStored old new at room cells
 Stores old new at room cells Outside = IsOutside old new at room
 Stores old new at room cells Refused = IsSame old new
-
--- bytes that a call gave stand at an address now
-pub record Fills (old new : PlainMemory) (at : ℕ) (bytes : List ℕ) : Type 0 where
-  pub cells_are : cell_at new ≡ put (cell_at old) at (map cell.Number bytes)
-  pub same_may : memory_may new ≡ memory_may old
 
 -- whether eight cells stand at an address, where they may be loaded
 abbrev pub held_at : PlainMemory → ℕ → List Cell → Option Bool

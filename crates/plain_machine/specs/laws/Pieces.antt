@@ -105,7 +105,19 @@ cells_tell R (c ∷ cs) (w ∷ ws) (y ∷ ys) (b ∷ bs) h r t =
 module _ (address : TextPlace → ℕ) (IsSlot : TextPlace → ℕ → ℕ → Type 0) where
   code_cells_tell : (p : TextPlace) → Pairwise (Tells (MeansCell address IsSlot)) (code_cells p) (bytes_of_long (address p))
   unfolding bytes_of_long
-  code_cells_tell p = (λ m h. sym h, (λ m h. sym h, (λ m h. sym h, (λ m h. sym h, (λ m h. sym h, (λ m h. sym h, (λ m h. sym h, (λ m h. sym h, tt))))))))
+  code_cells_tell p = (
+    λ m h. sym h,
+    (
+      λ m h. sym h,
+      (
+        λ m h. sym h,
+        (
+          λ m h. sym h,
+          (λ m h. sym h, (λ m h. sym h, (λ m h. sym h, (λ m h. sym h, tt)))),
+        ),
+      ),
+    ),
+  )
 
   difference_cells_tell :
       (p : TextPlace) (n : ℕ) →

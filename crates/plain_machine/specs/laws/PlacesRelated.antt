@@ -46,9 +46,11 @@ low_number_is Unsigned m n h k e = omega (arith, ints, e)
 low_number_is Signed m n h k e = sym (of_z-to_z w64 m h) ∙ ap (λ z. cast_unsigned w64 z) e ∙ of_z-to_z w64 n k
 
 -- equality as a comparison of registers tells it
-equality_told : (sign : Sign) (m n : ℕ) → m ≡ n → true ≡ not (int_lt (low_number Long sign m) (low_number Long sign n) || int_lt (low_number Long sign n) (low_number Long sign m))
+equality_told : (sign : Sign) (m n : ℕ) → m ≡ n → true ≡ not (int_lt (low_number Long sign m) (low_number Long sign n) || int_lt
+    (low_number Long sign n) (low_number Long sign m))
 equality_told sign m n e =
-    sym (ap (λ k. not (int_lt (low_number Long sign m) (low_number Long sign k) || int_lt (low_number Long sign k) (low_number Long sign m))) (sym e)
+    sym (ap (λ k. not (int_lt (low_number Long sign m) (low_number Long sign k) || int_lt (low_number Long sign k)
+    (low_number Long sign m))) (sym e)
     ∙ neither (low_number Long sign m))
 
 difference_told :
@@ -65,7 +67,8 @@ difference_told sign m n h k ne =
 unknown_means : (width : Width) (sign : Sign) (m n : ℕ) → Pairwise MeansBit (None ∷ None ∷ None ∷ Some false ∷ []) (compared width sign m n)
 unknown_means width sign m n = (tt, (tt, (tt, (refl, tt))))
 
-bits_mean : (width : Width) (sign : Sign) (x y m n : ℕ) → x ≡ m → y ≡ n → Pairwise MeansBit (map Some (compared width sign x y)) (compared width sign m n)
+bits_mean : (width : Width) (sign : Sign) (x y m n : ℕ) → x ≡ m → y ≡ n →
+    Pairwise MeansBit (map Some (compared width sign x y)) (compared width sign m n)
 bits_mean width sign x y m n h k =
     subst (λ z. Pairwise MeansBit (map Some (compared width sign x y)) (compared width sign z n)) h
     (subst (λ z. Pairwise MeansBit (map Some (compared width sign x y)) (compared width sign x z)) k (refl, (refl, (refl, (refl, tt)))))
@@ -93,7 +96,8 @@ module _ (size_of : ℕ → ℕ) (address : TextPlace → ℕ) (sound : IsSound 
   computed_means f Junk y m n h k = tt
 
   -- a place from its difference from a number, and that number
-  joined_means : (p : TextPlace) (d b m n : ℕ) → difference address p d ≡ m → b ≡ n → address (place_ahead p (b + (2 ^ 64 - d))) ≡ (m + n) % 2 ^ 64
+  joined_means : (p : TextPlace) (d b m n : ℕ) → difference address p d ≡ m → b ≡ n →
+      address (place_ahead p (b + (2 ^ 64 - d))) ≡ (m + n) % 2 ^ 64
   joined_means p d b m n h k =
       sound.ahead p (b + (2 ^ 64 - d))
       ∙ ap (λ z. z % 2 ^ 64) (regroup (address p) b (2 ^ 64 - d))
@@ -195,7 +199,8 @@ module _ (size_of : ℕ → ℕ) (address : TextPlace → ℕ) (sound : IsSound 
   zero_compared sign p a m n true false e f h k = ((tt, (tt, (tt, (refl, tt)))), (tt, (tt, (tt, (refl, tt)))))
   zero_compared sign p a m n false j e f h k = ((tt, (tt, (tt, (refl, tt)))), (tt, (tt, (tt, (refl, tt)))))
 
-  long_compared : (sign : Sign) (x y : PlainValue) (m n : ℕ) → Is x m → Is y n → Pairwise MeansBit (compared_long size_of x y) (compared Long sign m n)
+  long_compared : (sign : Sign) (x y : PlainValue) (m n : ℕ) → Is x m → Is y n →
+      Pairwise MeansBit (compared_long size_of x y) (compared Long sign m n)
   long_compared sign (Code p) (Code q) m n h k = places_compared sign p q m n (is_inside size_of p) (is_inside size_of q) refl refl h k
   long_compared sign (Code p) (Number a) m n h k = (zero_compared sign p a m n (is_inside size_of p) (a == 0) refl refl h k).0
   long_compared sign (Number a) (Code p) m n h k = (zero_compared sign p a n m (is_inside size_of p) (a == 0) refl refl k h).1
@@ -213,13 +218,15 @@ module _ (size_of : ℕ → ℕ) (address : TextPlace → ℕ) (sound : IsSound 
   long_compared sign (Difference p d) y m n h k = unknown_means Long sign m n
   long_compared sign Junk y m n h k = unknown_means Long sign m n
 
-  values_compared : (width : Width) (sign : Sign) (x y : PlainValue) (m n : ℕ) → Is x m → Is y n → Pairwise MeansBit (compared_values size_of width x y) (compared width sign m n)
+  values_compared : (width : Width) (sign : Sign) (x y : PlainValue) (m n : ℕ) → Is x m → Is y n →
+      Pairwise MeansBit (compared_values size_of width x y) (compared width sign m n)
   values_compared Long sign x y m n h k = long_compared sign x y m n h k
   values_compared Word sign x y m n h k = unknown_means Word sign m n
   values_compared Half sign x y m n h k = unknown_means Half sign m n
   values_compared Byte sign x y m n h k = unknown_means Byte sign m n
 
-  compare_means : (width : Width) (sign : Sign) (x y : PlainValue) (m n : ℕ) → Is x m → Is y n → Pairwise MeansBit (order_of size_of width sign x y) (compared width sign m n)
+  compare_means : (width : Width) (sign : Sign) (x y : PlainValue) (m n : ℕ) → Is x m → Is y n →
+      Pairwise MeansBit (order_of size_of width sign x y) (compared width sign m n)
   compare_means width sign (Number a) (Number b) m n h k = bits_mean width sign a b m n h k
   compare_means width sign (Number a) (Code q) m n h k = values_compared width sign (Number a) (Code q) m n h k
   compare_means width sign (Number a) (Part q) m n h k = values_compared width sign (Number a) (Part q) m n h k
@@ -264,7 +271,8 @@ module _ (size_of : ℕ → ℕ) (address : TextPlace → ℕ) (sound : IsSound 
   AreNumbers None ys = Unit {0}
   AreNumbers (Some ns) ys = ns ≡ ys
 
-  numbers_with : (o : Option ℕ) (m : ℕ) (l : Option (List ℕ)) (ys : List ℕ) → Known (◌≡◌ {A = ℕ}) o (Some m) → AreNumbers l ys → AreNumbers (with_number o l) (m ∷ ys)
+  numbers_with : (o : Option ℕ) (m : ℕ) (l : Option (List ℕ)) (ys : List ℕ) → Known (◌≡◌ {A = ℕ}) o (Some m) → AreNumbers l ys →
+      AreNumbers (with_number o l) (m ∷ ys)
   numbers_with None m l ys h k = tt
   numbers_with (Some n) m None ys h k = tt
   numbers_with (Some n) m (Some ns) ys h k = ap (λ z. z ∷ ns) h ∙ ap (λ zs. m ∷ zs) k
@@ -273,7 +281,8 @@ module _ (size_of : ℕ → ℕ) (address : TextPlace → ℕ) (sound : IsSound 
   cells_are_numbers [] [] r = refl
   cells_are_numbers [] (y ∷ ys) r = absurd r
   cells_are_numbers (c ∷ cs) [] r = absurd r
-  cells_are_numbers (c ∷ cs) (y ∷ ys) r = numbers_with (cell_number c) y (cell_numbers cs) ys (byte_means c y r.0) (cells_are_numbers cs ys r.1)
+  cells_are_numbers (c ∷ cs) (y ∷ ys) r = numbers_with (cell_number c) y (cell_numbers cs) ys (byte_means c y r.0)
+      (cells_are_numbers cs ys r.1)
 
   -- a register of eight bytes holds what they spell, however its sign is read
   long_widened : (sign : Sign) (n : ℕ) → n < 2 ^ 64 → widened Long sign n ≡ n
@@ -325,19 +334,22 @@ module _ (size_of : ℕ → ℕ) (address : TextPlace → ℕ) (sound : IsSound 
   difference_joined (cell.Slot p i ∷ cs) ys r = tt
   difference_joined (cell.Junk ∷ cs) ys r = tt
 
-  pieces_joined : (width : Width) (sign : Sign) (cs : List Cell) (ys : List ℕ) → Pairwise IsByte cs ys → Is (joined_pieces width sign cs) (widened width sign (spelled ys))
+  pieces_joined : (width : Width) (sign : Sign) (cs : List Cell) (ys : List ℕ) → Pairwise IsByte cs ys →
+      Is (joined_pieces width sign cs) (widened width sign (spelled ys))
   pieces_joined Long sign cs ys r = code_joined sign cs ys r
   pieces_joined Word Signed cs ys r = difference_joined cs ys r
   pieces_joined Word Unsigned cs ys r = tt
   pieces_joined Half sign cs ys r = tt
   pieces_joined Byte sign cs ys r = tt
 
-  join_by : (width : Width) (sign : Sign) (cs : List Cell) (ys : List ℕ) (o : Option (List ℕ)) → Pairwise IsByte cs ys → AreNumbers o ys → Is (joined_by width sign cs o) (widened width sign (spelled ys))
+  join_by : (width : Width) (sign : Sign) (cs : List Cell) (ys : List ℕ) (o : Option (List ℕ)) → Pairwise IsByte cs ys → AreNumbers o ys →
+      Is (joined_by width sign cs o) (widened width sign (spelled ys))
   join_by width sign cs ys None r h = pieces_joined width sign cs ys r
   join_by width sign cs ys (Some ns) r h = ap (λ zs. widened width sign (spelled zs)) h
 
   -- what a store puts
-  numbers_split : (width : Width) (n m : ℕ) → n ≡ m → Pairwise IsByte (map cell.Number (take (bytes_of width) (bytes_of_long n))) (take (bytes_of width) (bytes_of_long m))
+  numbers_split : (width : Width) (n m : ℕ) → n ≡ m → Pairwise IsByte (map cell.Number (take (bytes_of width) (bytes_of_long n)))
+      (take (bytes_of width) (bytes_of_long m))
   numbers_split width n m h =
       subst (λ z. Pairwise IsByte (map cell.Number (take (bytes_of width) (bytes_of_long n))) (take (bytes_of width) (bytes_of_long z))) h
       (each (take (bytes_of width) (bytes_of_long n)))
@@ -359,13 +371,15 @@ module _ (size_of : ℕ → ℕ) (address : TextPlace → ℕ) (sound : IsSound 
       subst (λ z. Pairwise IsByte (code_cells p) (take 8 (bytes_of_long z))) h
       (refl, (refl, (refl, (refl, (refl, (refl, (refl, (refl, tt))))))))
 
-  code_is_split : (width : Width) (p : TextPlace) (m : ℕ) → address p ≡ m → Pairwise IsByte (code_split width p) (take (bytes_of width) (bytes_of_long m))
+  code_is_split : (width : Width) (p : TextPlace) (m : ℕ) → address p ≡ m →
+      Pairwise IsByte (code_split width p) (take (bytes_of width) (bytes_of_long m))
   code_is_split Long p m h = pieces_split p m h
   code_is_split Word p m h = junk_split Word m
   code_is_split Half p m h = junk_split Half m
   code_is_split Byte p m h = junk_split Byte m
 
-  split_means : (width : Width) (x : PlainValue) (m : ℕ) → Is x m → Pairwise IsByte (split width x) (take (bytes_of width) (bytes_of_long m))
+  split_means : (width : Width) (x : PlainValue) (m : ℕ) → Is x m → Pairwise IsByte (split width x)
+      (take (bytes_of width) (bytes_of_long m))
   split_means width (Number n) m h = numbers_split width n m h
   split_means width (Code p) m h = code_is_split width p m h
   split_means width (Part p) m h = junk_split width m

@@ -20,7 +20,8 @@ overflow_add-at c =
 pub cell-requires : goal.cell-requires
 cell-requires c =
     let m = c.args.self.now in
-    ap (λ b. b && true) (part_allowed (ranges_of m.numbers.regions.items) c.args.at _ c.loop-i.i c.loop-i-test.true (both_true _ _ c.requires).0)
+    ap (λ b. b && true) (part_allowed (ranges_of m.numbers.regions.items) c.args.at _ c.loop-i.i c.loop-i-test.true
+    (both_true _ _ c.requires).0)
 
 pub returns-then-not-same_cell : goal.returns-then-not-same_cell
 returns-then-not-same_cell c =

@@ -1,24 +1,19 @@
--- What may be stored to lies low, and cells that are no numbers stand over all.
-use Rattle.std.proofs.Common.{◌∙◌, sym, arith, refl}
+-- What may be stored to lies low.
+use Rattle.std.proofs.Common.{◌∙◌, sym, arith}
 use Rattle.power_machine.specs.declared.memory.Purpose.TheVariants.{Storing}
-use Rattle.power_machine.specs.Memory.{byte_at}
-use Rattle.plain_machine.specs.inside.Others.{other_at}
-use Rattle.plain_machine.proofs.Cells.{allowed_low, both_true, special_stand}
+use Rattle.plain_machine.proofs.Cells.{allowed_low, both_true}
 use Rattle.plain_machine.proofs.memory.PlainMemory.put.Goals as goal
 
-pub put-requires-clause-low : goal.put-requires-clause-low
-put-requires-clause-low c =
+pub hold-requires-clause-low : goal.hold-requires-clause-low
+hold-requires-clause-low c =
     let m = c.args.self.now in
     let allowed = both_true _ _ (sym c.may_store.ensures ∙ c.if-not-may_store.false) in
     let low = allowed_low Storing c.args.at _ m.numbers.regions.items m.numbers.in_order allowed.0 in
     omega (arith, low)
 
 pub returns-in-Ok : goal.returns-in-Ok
-returns-in-Ok c =
-    let m = c.args.self.now in
-    record {
-      allowed = sym c.may_store.ensures ∙ c.if-not-may_store.false;
-      cells_are = λ i a. special_stand (other_at m.others) (other_at c.put.new.self) (byte_at m.numbers.regions.items) c.args.at a c.args.cells.now
-          c.requires.special (c.in-Ok.ensures.ok a) i;
-      same_may = refl;
-    }
+returns-in-Ok c = record {
+  allowed = sym c.may_store.ensures ∙ c.if-not-may_store.false;
+  cells_are = c.in-Ok.ensures.held.cells_are;
+  same_may = c.in-Ok.ensures.held.same_may;
+}

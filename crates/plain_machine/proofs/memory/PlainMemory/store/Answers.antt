@@ -21,5 +21,7 @@ returns-in-Number-default c =
     (ap (λ (k : ℕ). take k c.to_le_bytes.result) c.size_of-count.ensures ∙ ap (take (bytes_of width)) c.to_le_bytes.ensures)
     c.put_numbers.ensures in
     let long = subst (λ (k : ℕ). Stores m new c.args.at k (map cell.Number bytes) c.put_numbers.result) (split_length width n) put in
-    let cells = subst (λ (cs : List Cell). Stores m new c.args.at (bytes_of width) cs c.put_numbers.result) (sym (number_split width n)) long in
-    subst (λ (v : PlainValue). Stores m new c.args.at (bytes_of width) (split width v) c.put_numbers.result) (sym c.in-Number-default.is-0) cells
+    let cells = subst (λ (cs : List Cell). Stores m new c.args.at (bytes_of width) cs c.put_numbers.result) (sym (number_split width n))
+    long in
+    subst (λ (v : PlainValue). Stores m new c.args.at (bytes_of width) (split width v) c.put_numbers.result)
+    (sym c.in-Number-default.is-0) cells

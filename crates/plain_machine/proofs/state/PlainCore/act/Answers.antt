@@ -11,7 +11,8 @@ returns-in-Divide c =
     let core = c.args.self.now in
     let new = c.divide.new.self in
     let w = c.in-Divide in
-    subst (λ (op : Operation). Did (exec (domain_of core) c.args.size (core_may core) op (plain_state core)) core new c.divide.result) (sym w.is)
+    subst (λ (op : Operation). Did (exec (domain_of core) c.args.size (core_may core) op (plain_state core)) core new c.divide.result)
+    (sym w.is)
     (subst (λ (x : PlainValue).
     Did (divide (domain_of core) c.args.size (plain_state core) w.sign w.to x (value_of (domain_of core) (plain_state core) w.y) w.rc)
     core new c.divide.result) c.value_of-x.ensures
