@@ -1,0 +1,6 @@
+pub mod Standing
+pub mod Roles
+pub mod Effects
+pub mod Places
+pub mod Data
+pub mod inside
