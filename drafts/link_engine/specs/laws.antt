@@ -1,0 +1,2 @@
+-- What crates above may cite, with its proofs.
+pub mod Outcomes

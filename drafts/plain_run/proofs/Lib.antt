@@ -1,0 +1,11 @@
+pub mod CallMarks
+pub mod DataPointers
+pub mod LoadWords
+pub mod Marking
+pub mod PairMarks
+pub mod Standings
+pub mod Stepping
+pub mod TextWords
+pub mod ToldMarks
+pub mod WordFields
+pub mod WrittenMarks

@@ -1,0 +1,13 @@
+pub mod Numerals
+pub mod Coming
+pub mod Reading
+pub mod Reporting
+pub mod Linking
+pub mod Deciding
+pub mod Showing
+pub mod Shown
+pub mod Files
+pub mod Reported
+pub mod Executing
+pub mod Endings
+pub mod Settling
