@@ -1,3 +1,0 @@
--- Words of private contracts.
-pub mod Earlier
-pub mod Writing

@@ -1,2 +1,0 @@
--- What crates above may cite, with its proofs.
-pub mod Outcomes

@@ -1,9 +1,0 @@
-pub mod Numbers
-pub mod Requests
-pub mod Lines
-pub mod Jobs
-pub mod Show
-pub mod Runs
-pub mod Responses
-pub mod Statuses
-pub mod inside
