@@ -44,6 +44,13 @@ impl PlainMachine {
         &self.events
     }
 
+    /// The same, of a machine that makes no more.
+    pub fn into_events(self) -> Vec<Event>
+        ensures { result ≡ self.events }
+    {
+        self.events
+    }
+
     /// The status with which the run has ended, if it has.
     pub fn ended(&self) -> Option<u8>
         ensures { result ≡ self.now.ended }

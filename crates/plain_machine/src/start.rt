@@ -40,6 +40,7 @@ impl PlainMachine {
         ensures { IfOk result (IsStart program segments.items) }
     {
         let numbers = AddressSpace::of(alloc, segments)?;
+        let kept = Kept::of_ranges(alloc, program.kept)?;
         let mut registers = [PlainValue::Number(0); 34];
         registers[1] = PlainValue::Number(0x7FFF_F000);
         registers[12] = PlainValue::Code(program.entry);
@@ -52,7 +53,7 @@ impl PlainMachine {
                 memory: PlainMemory {
                     numbers,
                     others: Others::none(alloc),
-                    kept: Kept::of_ranges(program.kept),
+                    kept,
                 },
                 sizes: program.sizes,
             },

@@ -73,7 +73,7 @@ fn an_address_is_loaded_whole_and_lost_where_a_number_is_stored_over(
     let mut memory = PlainMemory {
         numbers: AddressSpace::of(alloc, Vec::new(alloc))?,
         others: Others::none(alloc),
-        kept: Kept::of_ranges(kept),
+        kept: Kept::of_ranges(alloc, kept)?,
     };
     let place = PlainValue::Code(PLACE);
     assert!(rt; matches!(memory.store(Width::Long, 0x7FFF_E004, place), Stored::Whole));

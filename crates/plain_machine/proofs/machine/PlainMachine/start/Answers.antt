@@ -19,8 +19,8 @@ returns c =
       state = ap (with_bytes (start_state c.args.program.entry segments))
           (λ i a. (ap (λ (d : Cell). told d (byte_at c.in_ok-numbers.numbers.regions.items a)) (c.none.ensures a)
           ∙ ap (λ (f : ℕ → ℕ). cell.Number (f a)) numbers.bytes) i);
-      may = ap (λ (ranges : List Range). guarded ranges c.of_ranges.result) numbers.ranges
-          ∙ ap (λ (kept : List AddressRange). guarded (start_ranges segments) kept) c.of_ranges.ensures;
+      may = ap (λ (ranges : List Range). guarded ranges c.in_ok-kept.kept) numbers.ranges
+          ∙ ap (λ (kept : List AddressRange). guarded (start_ranges segments) kept) c.in_ok-kept.ensures;
       sizes = refl;
       events = c.new.ensures.items;
       ended = refl;
