@@ -1,5 +1,5 @@
 -- What data holds of places in text lies low, and how it is gathered.
-use Rattle.std.proofs.Common.{◌≡◌, ◌<◌, ◌≤◌, ◌+◌, ◌*◌, ◌-◌, ◌%◌, ◌^◌, inl, inr, ℕ, zero, suc, Bool, true, false, not, List, [], ◌∷◌, ◌++◌, length, append_assoc, Option, Some, None, refl, sym, ap, ◌∙◌, subst, arith, add-one, if◌then◌else◌, slice_index}
+use Rattle.std.proofs.Common.{◌≡◌, ◌<◌, ◌+◌, ◌*◌, ◌-◌, ◌%◌, ◌^◌, inl, inr, ℕ, zero, suc, Bool, true, false, not, List, [], ◌∷◌, ◌++◌, length, append_assoc, Option, Some, None, refl, sym, ap, ◌∙◌, arith, add-one, if◌then◌else◌, slice_index}
 use Rattle.std.specs.Prelude.{◌==◌, ◌&&◌, ℤ, pos, slice_get}
 use Rattle.std.specs.List.{All, flat_map, range_with_len}
 use Rattle.std.proofs.Math.Nat.{zero-add}
@@ -19,8 +19,8 @@ use Rattle.object_set.specs.declared.sort.Sort.{Sort}
 use Rattle.object_set.specs.declared.sort.Sort.TheVariants.{Text, Zeroed, Toc, Writable, ReadOnly, Dropped}
 use Rattle.object_set.specs.Files.{file_at}
 use Rattle.object_set.specs.Refusals.{set_refusal}
-use Rattle.object_set.specs.Sections.{is_text, is_text_sort, sort_of}
-use Rattle.object_set.specs.Walks.{IsRecord, IsSection, all_items, section_walk}
+use Rattle.object_set.specs.Sections.{is_text_sort, sort_of}
+use Rattle.object_set.specs.Walks.{IsRecord, all_items, section_walk}
 use Rattle.object_set.specs.laws.Walks.{first_of, rest_of, all_given, all_records_in}
 use Rattle.reloc_fields.specs.declared.kind.Kind.{Kind}
 use Rattle.reloc_fields.specs.declared.kind.Kind.TheVariants as kinds

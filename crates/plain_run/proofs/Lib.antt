@@ -1,1 +1,15 @@
+pub mod CallMarks
 pub mod DataPointers
+pub mod FieldActions
+pub mod FieldParts
+pub mod FieldValues
+pub mod LoadWords
+pub mod Marking
+pub mod PairActions
+pub mod PairMarks
+pub mod Standings
+pub mod Stepping
+pub mod TextWords
+pub mod ToldMarks
+pub mod WordFields
+pub mod WrittenMarks

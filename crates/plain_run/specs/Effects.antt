@@ -7,7 +7,6 @@ use Rattle.power_insns.specs.declared.meaning.Operand.TheVariants.{Fixed}
 use Rattle.power_insns.specs.declared.meaning.Operation.{Operation}
 use Rattle.power_insns.specs.declared.meaning.Operation.TheVariants.{Copy, Calculate, Divide, Compare, Load, Store, Branch, System}
 use Rattle.power_insns.specs.Operations.{operation_of}
-use Rattle.prefixed_insns.specs.declared.instruction.PInsn.{PInsn}
 use Rattle.prefixed_insns.specs.declared.short_forms.ShortForm.{ShortForm}
 use Rattle.prefixed_insns.specs.Meaning.{operation_of_pair}
 use Rattle.prefixed_insns.specs.ShortForms.{short_form_of}
@@ -15,7 +14,7 @@ use Rattle.power_machine.specs.declared.code.Code.{Code}
 use Rattle.power_machine.specs.declared.code.Code.TheVariants as code
 use Rattle.power_machine.specs.declared.reason.Reason.{Reason}
 use Rattle.power_machine.specs.declared.reason.Reason.TheVariants as why
-use Rattle.power_machine.specs.Codes.{IsOneWord, IsTwoWords}
+use Rattle.power_machine.specs.Codes.{IsOneWord}
 use Rattle.symbol_table.specs.Targets.{plus_addend}
 use Rattle.plain_machine.specs.declared.action.Action.{Action}
 use Rattle.plain_machine.specs.declared.action.Effect.{Effect}

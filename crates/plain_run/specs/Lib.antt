@@ -3,4 +3,7 @@ pub mod Roles
 pub mod Effects
 pub mod Places
 pub mod Data
+pub mod Jobs
+pub mod Running
+pub mod Runs
 pub mod inside

@@ -1,15 +1,13 @@
 -- What a step of the plain run does at each place of text (ELFv2 ABI, "Function Call", "TOC Pointer Usage" and "Relocation Descriptions";
 -- Power ISA 3.1, book I, "Prefixed Instructions").
-use Rattle.std.specs.Prelude.{ℕ, ℤ, pos, ◌≡◌, ◌+◌, ◌*◌, ◌%◌, Bool, true, false, not, ◌&&◌, ◌||◌, ◌==◌, nat_le, nat_lt, List, [], ◌∷◌, ◌++◌, length, map, Option, Some, None, slice_index, if◌then◌else◌}
+use Rattle.std.specs.Prelude.{ℕ, ℤ, ◌≡◌, ◌+◌, ◌*◌, ◌%◌, Bool, true, false, not, ◌&&◌, ◌||◌, ◌==◌, nat_le, nat_lt, List, [], ◌∷◌, ◌++◌, length, map, Option, Some, None, slice_index, if◌then◌else◌}
 use Rattle.std.specs.List.{list_any, range_with_len}
 use Rattle.elf64_records.specs.Sections.{sh_size}
 use Rattle.object_set.specs.declared.places.RecordId.{RecordId}
-use Rattle.object_set.specs.Files.{file_at}
 use Rattle.object_set.specs.Sections.{align_of, sort_of}
 use Rattle.object_set.specs.Walks.{Walk, IsRecord, all_items}
 use Rattle.elf64_records.specs.FileHeader.{e_shnum}
 use Rattle.ppc_bytes.specs.Halves.{whole_ha}
-use Rattle.power_insns.specs.declared.instruction.Insn.{Insn}
 use Rattle.power_machine.specs.declared.code.Code.{Code}
 use Rattle.power_machine.specs.declared.code.Code.TheVariants as code
 use Rattle.power_machine.specs.declared.reason.Reason.TheVariants as why
@@ -41,7 +39,6 @@ use Rattle.plain_machine.specs.declared.action.Effect.TheVariants as effect
 use Rattle.plain_machine.specs.declared.action.Need.{Need}
 use Rattle.plain_machine.specs.declared.kept.AddressRange.{AddressRange}
 use Rattle.plain_machine.specs.declared.place.TextPlace.{TextPlace}
-use Rattle.plain_machine.specs.declared.value.Part.{Part as PartOf}
 use Rattle.plain_machine.specs.declared.value.Part.TheVariants as part
 use Rattle.plain_machine.specs.declared.value.PartTarget.{PartTarget}
 use Rattle.plain_machine.specs.declared.value.PartTarget.TheVariants as goal

@@ -1,6 +1,6 @@
 -- What stands at a place of text, by the relocation records whose fields have bytes of the word there (ELFv2 ABI, "Function Call", "TOC
 -- Pointer Usage" and "Relocation Descriptions").
-use Rattle.std.specs.Prelude.{ℕ, ◌+◌, ◌-◌, ◌/◌, ◌%◌, ◌^◌, Bool, true, false, ◌&&◌, ◌==◌, nat_le, nat_lt, List, [], ◌∷◌, map, Option, Some, None, is_some, slice_index, if◌then◌else◌}
+use Rattle.std.specs.Prelude.{ℕ, ◌-◌, ◌/◌, ◌%◌, ◌^◌, Bool, true, false, ◌&&◌, ◌==◌, nat_le, nat_lt, List, [], ◌∷◌, map, Option, Some, None, is_some, slice_index, if◌then◌else◌}
 use Rattle.elf64_records.specs.Sections.{sh_size}
 use Rattle.object_set.specs.declared.places.SectionId.{SectionId}
 use Rattle.object_set.specs.Files.{file_at}

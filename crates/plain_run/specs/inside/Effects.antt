@@ -1,5 +1,5 @@
 -- What is known of effects while actions are made of them.
-use Rattle.std.specs.Prelude.{◌≡◌, ◌<◌, ℕ}
+use Rattle.std.specs.Prelude.{◌≡◌}
 use Rattle.power_machine.specs.declared.code.Code.{Code}
 use Rattle.plain_machine.specs.declared.action.Action.{Action}
 use Rattle.plain_machine.specs.declared.action.Effect.{Effect}

@@ -1,7 +1,6 @@
 -- push_group-requires: the group is there. loop-group-preserved: what one group more holds. returns: what all hold, and that it lies low.
-use Rattle.std.proofs.Common.{◌≡◌, ◌++◌, ℕ, List, ap, sym, ◌∙◌, subst, arith}
+use Rattle.std.proofs.Common.{◌≡◌, ◌++◌, ℕ, ap, sym, ◌∙◌, subst, arith}
 use Rattle.std.specs.List.{flat_map, range_with_len}
-use Rattle.plain_machine.specs.declared.pointer.PlacedPointer.{PlacedPointer}
 use Rattle.toc_groups.specs.Groups.{group_count}
 use Rattle.toc_groups.proofs.Reading.{named_long}
 use Rattle.toc_rewrite.specs.Records.{all_records}

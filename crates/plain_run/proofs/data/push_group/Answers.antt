@@ -1,6 +1,6 @@
 -- group_slots-requires, push_slot-requires: the group, and the slot, is there. loop-k-preserved: what one slot more holds. returns: what
 -- all hold.
-use Rattle.std.proofs.Common.{◌≡◌, ◌++◌, ℕ, List, length, ap, sym, ◌∙◌, arith}
+use Rattle.std.proofs.Common.{◌≡◌, ◌++◌, ℕ, List, length, ap, ◌∙◌, arith}
 use Rattle.std.specs.List.{flat_map, range_with_len}
 use Rattle.object_set.specs.declared.places.SymbolId.{SymbolId}
 use Rattle.toc_groups.specs.Data.{group_slots}

@@ -1,6 +1,5 @@
 -- What a slot holds stands behind the rest.
-use Rattle.std.proofs.Common.{◌≡◌, ◌++◌, ◌∷◌, [], ℕ, List, Option, ap, sym, ◌∙◌}
-use Rattle.object_set.specs.declared.places.SymbolId.{SymbolId}
+use Rattle.std.proofs.Common.{[], ap, sym, ◌∙◌}
 use Rattle.plain_run.specs.Data.{place_in}
 use Rattle.plain_run.proofs.DataPointers.{slot_more}
 use Rattle.plain_run.proofs.data.push_slot.Goals as goal

@@ -1,5 +1,5 @@
 -- group_start-requires, group_slots-requires: the group is there. overflow_add: its slots end low. returns: its range.
-use Rattle.std.proofs.Common.{◌≡◌, ◌<◌, ◌+◌, ◌*◌, ◌^◌, ℕ, List, length, ap, sym, ◌∙◌, subst, arith}
+use Rattle.std.proofs.Common.{◌≡◌, ◌<◌, ◌+◌, ◌*◌, ◌^◌, ℕ, List, length, ap, ◌∙◌, subst, arith}
 use Rattle.object_set.specs.declared.places.SymbolId.{SymbolId}
 use Rattle.plain_machine.specs.declared.kept.AddressRange.{AddressRange}
 use Rattle.toc_groups.specs.Data.{group_start, group_slots}

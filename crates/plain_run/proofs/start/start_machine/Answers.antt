@@ -1,5 +1,5 @@
 -- start-requires: segments of data are placed. returns: the machine holds what data holds.
-use Rattle.std.proofs.Common.{◌≡◌, ℕ, List, Vec, ap, sym, ◌∙◌}
+use Rattle.std.proofs.Common.{ℕ, List, Vec, ap, ◌∙◌}
 use Rattle.std.specs.List.{fold}
 use Rattle.std.specs.declared.alloc.Global.{Global}
 use Rattle.plain_machine.specs.declared.kept.AddressRange.{AddressRange}
