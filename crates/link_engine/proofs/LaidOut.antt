@@ -25,19 +25,10 @@ use Rattle.pcrel_rewrite.specs.Pairs.{ArePairs}
 use Rattle.image_writer.specs.Segments.{image_segments}
 use Rattle.image_writer.specs.LaidText.{TextLayout, IsTextLayout}
 use Rattle.image_writer.specs.laws.OnePlan.{one_plan}
-use Rattle.link_engine.specs.Link.{plan_of, calls_of, early_refusal, entry_address, segments_of, IsLaidOut, HasOverflow, IsImageOf, LinksTo, overflow}
+use Rattle.link_engine.specs.Link.{plan_of, calls_of, entry_address, segments_of, IsLaidOut, HasOverflow, IsImageOf, LinksTo, overflow}
 use Rattle.link_engine.specs.Options.{LinkOptions}
-use Rattle.link_engine.specs.inside.Writing.{IsResolved, IsWritten, address_of}
+use Rattle.link_engine.specs.inside.Writing.{IsResolved, IsLaidJob, IsWritten, address_of}
 use Rattle.link_engine.proofs.Entered.{early_passes}
-
--- a job that isn't refused before its text is laid out, its text, and the recognised pairs of its files
-pub record IsLaidJob (files : List (List ℕ)) (options : LinkOptions) (plan : LaidData) (calls : List CallSite) (text : TextLayout)
-    (pairs : List TextPair) : Type 0 where
-  pub passes : early_refusal files options ≡ None
-  pub is_plan : IsPlan files options.toc_span plan
-  pub are : calls ≡ call_sites files plan.groups
-  pub laid : IsTextLayout files plan calls options.branch_span text
-  pub pairs_are : ArePairs files pairs
 
 -- from what each stage gives, where the options are read
 pub laid_job : (resolved : ResolvedFiles) (options : LinkOptions) (branch toc : ℕ) (plan : LaidData) (groups : List ℕ)
@@ -47,8 +38,7 @@ pub laid_job : (resolved : ResolvedFiles) (options : LinkOptions) (branch toc : 
     groups ≡ plan.groups → sites_refusal resolved.files groups ≡ None → sites ≡ call_sites resolved.files groups → calls ≡ sites →
     IsTextLayout resolved.files plan calls branch text → ArePairs resolved.files pairs →
     IsLaidJob resolved.files options plan calls text pairs
-laid_job resolved options branch toc plan groups sites calls text pairs branch_is toc_is is is_plan_read same_groups none sites_are
-    calls_are laid
+laid_job resolved options branch toc plan groups sites calls text pairs branch_is toc_is is is_plan_read same_groups none sites_are calls_are laid
     pairs_are =
     let files = resolved.files in
     let is_plan : IsPlan files options.toc_span plan =
@@ -63,7 +53,7 @@ laid_job resolved options branch toc plan groups sites calls text pairs branch_i
 
 module _ (files : List (List ℕ)) (options : LinkOptions) (plan : LaidData) (calls : List CallSite) (text : TextLayout)
     (pairs : List TextPair) (job : IsLaidJob files options plan calls text pairs) where
-  plan_is : plan ≡ plan_of files options
+  pub plan_is : plan ≡ plan_of files options
   plan_is = one_plan files options.toc_span plan job.is_plan
 
   calls_are : calls ≡ calls_of files options

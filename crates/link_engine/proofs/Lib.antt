@@ -4,3 +4,8 @@ pub mod Entered
 pub mod LaidOut
 pub mod LoadedImages
 pub mod TextStands
+pub mod SamePairs
+pub mod OneAction
+pub mod OneRun
+pub mod FixedFields
+pub mod PlainEnds

@@ -19,7 +19,7 @@ use Rattle.link_engine.specs.Options.{LinkOptions}
 use Rattle.link_engine.specs.laws.Outcomes.{passed}
 
 -- the plan of files whose data isn't too big is one
-plan_is : (files : List (List ℕ)) (span : ℕ) → data_refusal files span ≡ None → IsPlan files span (data_plan files span)
+pub plan_is : (files : List (List ℕ)) (span : ℕ) → data_refusal files span ≡ None → IsPlan files span (data_plan files span)
 plan_is files span fits = record {
   span_is = refl;
   groups = refl;

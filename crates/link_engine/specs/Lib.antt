@@ -1,5 +1,6 @@
 pub mod Options
 pub mod Link
+pub mod Plain
 pub mod Texts
 pub mod inside
 pub mod laws

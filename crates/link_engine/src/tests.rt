@@ -1,9 +1,14 @@
 // Links of a few small objects.
-ghost use Rattle.std.specs.Prelude.{◌≡◌, ◌<◌};
+ghost use Rattle.std.specs.Prelude.{◌≡◌, ◌<◌, ◌≤◌, length, IfOk};
+ghost use Rattle.link_engine.specs.Options.{InRange};
 
-use crate::{BRANCH_SPAN, FileBytes, Linked, Options, Refusal, Steps, TOC_SPAN, link};
+use crate::{
+    BRANCH_SPAN, FileBytes, Linked, Options, PlainEnd, Refusal, Steps, TOC_SPAN, link, plain_of,
+};
 use elf64_exec::{IMAGE_START, PAGE, read_exec};
 use object_builder::{FileHeader, Object, Record, Section, Symbol};
+use plain_run::PlainOutcome;
+use power_machine::{Reason, World};
 use ppc_bytes::Memory;
 use ppc_bytes::constants::SHN_COMMON;
 use std::alloc::Global;
@@ -176,6 +181,29 @@ fn file(alloc: Global, object: &Object) -> Result<FileBytes, Memory> {
     })
 }
 
+fn files(alloc: Global, objects: &[&Object]) -> Result<Vec<FileBytes>, Fail>
+    ensures { IfOk result (λ files. (1 ≤ length files.items) × (length files.items ≤ 4096)) }
+{
+    let mut files = Vec::new(alloc);
+    for object in objects {
+        files.push(file(alloc, object)?)?;
+    }
+    if files.is_empty() || files.len() > 4096 {
+        return Err(Fail::from("1 to 4096 files"));
+    }
+    Ok(files)
+}
+
+fn options(alloc: Global, entry: &str) -> Result<Options, Memory>
+    ensures { IfOk result InRange }
+{
+    Ok(Options {
+        entry: String::from_str(alloc, entry)?,
+        branch_span: BRANCH_SPAN,
+        toc_span: TOC_SPAN,
+    })
+}
+
 fn link_with<L: Ledger>(
     blank: Blank,
     alloc: Global,
@@ -185,18 +213,8 @@ fn link_with<L: Ledger>(
     requires parts { blank.parts ≡ L.parts }
     requires some { 0 < L.parts }
 {
-    let mut files = Vec::new(alloc);
-    for object in job.objects {
-        files.push(file(alloc, object)?)?;
-    }
-    if files.is_empty() || files.len() > 4096 {
-        return Err(Fail::from("1 to 4096 files"));
-    }
-    let options = Options {
-        entry: String::from_str(alloc, job.entry)?,
-        branch_span: BRANCH_SPAN,
-        toc_span: TOC_SPAN,
-    };
+    let files = files(alloc, job.objects)?;
+    let options = options(alloc, job.entry)?;
     let mut steps = Steps::<L>::new(blank);
     Ok(link(alloc, &files, &options, &mut steps))
 }
@@ -302,6 +320,69 @@ fn the_first_refusal_in_order_is_answered(rt: HostRuntime) -> Result<(), Fail> {
             _ => false,
         };
         assert!(rt; is_so, "row {i}");
+    }
+    Ok(())
+}
+
+/// The first of the three instructions, behind which the section ends.
+const CUT_SHORT: Object<'static> = Object {
+    sections: &[
+        EIGHT_BYTES,
+        Section {
+            bytes: &[1, 0, 0, 0x38],
+            ..TEXT
+        },
+    ],
+    symbols: &[Symbol {
+        section: 2,
+        ..Symbol::START
+    }],
+    ..Object::EMPTY
+};
+
+fn run_with<L: Ledger>(
+    blank: Blank,
+    alloc: Global,
+    objects: &[&Object],
+    budget: u64,
+) -> Result<Result<PlainEnd, Refusal>, Fail>
+    requires name { blank.name ≡ L.name }
+    requires parts { blank.parts ≡ L.parts }
+    requires some { 0 < L.parts }
+{
+    let files = files(alloc, objects)?;
+    let options = options(alloc, "_start")?;
+    let mut world = World::new(Vec::new(alloc), Vec::new(alloc));
+    let mut steps = Steps::<L>::new(blank);
+    Ok(plain_of(alloc, &files, &options, budget, &mut world, &mut steps))
+}
+
+fn run(alloc: Global, objects: &[&Object], budget: u64) -> Result<Result<PlainEnd, Refusal>, Fail> {
+    run_with::<Brand>(Blank::new(1), alloc, objects, budget)
+}
+
+/// Files, how many steps they may make, how their run ends, and the file and the section where it leaves.
+const RUNS: [(&[&Object], u64, PlainOutcome, u32, u32); 3] = [
+    (&[&WHOLE], 3, PlainOutcome::Exited(7), 0, 0),
+    (&[&WHOLE], 2, PlainOutcome::Budget, 0, 0),
+    (
+        &[&DROPPED, &CUT_SHORT],
+        3,
+        PlainOutcome::Left(Reason::Fetch, 0, 4),
+        1,
+        2,
+    ),
+];
+
+#[test]
+fn files_run_without_an_image(rt: HostRuntime) -> Result<(), Fail> {
+    for (objects, budget, outcome, file, section) in RUNS {
+        let Ok(end) = run(rt.alloc(), objects, budget)? else {
+            return Err(Fail::from("the files run"));
+        };
+        assert_eq!(rt; end.outcome, outcome);
+        assert!(rt; end.events.is_empty());
+        assert_eq!(rt; (end.file, end.section), (file, section));
     }
     Ok(())
 }

@@ -56,11 +56,11 @@ module _ (files : List (List ℕ)) (options : LinkOptions) where
   unfolding overflow_at text_overflow_at
   overflow_of_pairs sections pairs pairs' = refl
 
-  same_layout : (one other : TextLayout) → IsLaidOut files options one → IsLaidOut files options other → one ≡ other
+  pub same_layout : (one other : TextLayout) → IsLaidOut files options one → IsLaidOut files options other → one ≡ other
   same_layout one other a b = one_layout files (plan_of files options) (calls_of files options) options.branch_span one other a.is b.is
 
   -- whichever list tells the recognised pairs
-  same_overflow : (one other : TextLayout) (pairs pairs' : List TextPair) → IsLaidOut files options one → IsLaidOut files options other →
+  pub same_overflow : (one other : TextLayout) (pairs pairs' : List TextPair) → IsLaidOut files options one → IsLaidOut files options other →
       overflow files options.toc_span one.places.sections (rewriting_by files options pairs)
       ≡ overflow files options.toc_span other.places.sections (rewriting_by files options pairs')
   same_overflow one other pairs pairs' a b =
@@ -69,7 +69,7 @@ module _ (files : List (List ℕ)) (options : LinkOptions) where
       ∙ overflow_of_pairs other.places.sections pairs pairs'
 
   -- a link has one refusal
-  same_refusal : (one other : Refusal) → LinksTo files options (Err one) → LinksTo files options (Err other) → one ≡ other
+  pub same_refusal : (one other : Refusal) → LinksTo files options (Err one) → LinksTo files options (Err other) → one ≡ other
   same_refusal one other (inl a) (inl b) = cc
   same_refusal one other (inl a) (inr (inl b)) = let none = b.passes in cc
   same_refusal one other (inl a) (inr (inr b)) = let none = b.laid.passes in cc

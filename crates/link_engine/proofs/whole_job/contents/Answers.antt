@@ -1,6 +1,6 @@
 use Rattle.image_writer.specs.Rewriting.{rewriting_of}
 use Rattle.link_engine.proofs.Overflows.{no_overflow, in_text, in_data, in_both}
-use Rattle.link_engine.proofs.engine.contents.Goals as goal
+use Rattle.link_engine.proofs.whole_job.contents.Goals as goal
 
 -- no field overflows
 pub returns-in-Ok-Ok-clause-refusal : goal.returns-in-Ok-Ok-clause-refusal
