@@ -2,7 +2,11 @@ pub mod Numerals
 pub mod Coming
 pub mod Reading
 pub mod Reporting
+pub mod Choosing
+pub mod RunInputs
 pub mod Linking
+pub mod PlainEnds
+pub mod CheckedFiles
 pub mod Deciding
 pub mod Showing
 pub mod Shown

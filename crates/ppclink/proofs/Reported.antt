@@ -13,8 +13,8 @@ use Rattle.power_machine.specs.Start.{IsStart, start_ranges, start_run}
 use Rattle.power_machine.specs.Runs.{Going, Done, Gone}
 use Rattle.power_machine.specs.laws.Steps.{starts}
 use Rattle.power_machine.specs.Steps.{NumberRun, RunAnswers, run_of, machine_ranges}
-use Rattle.ppclink.specs.declared.running.RunText.{RunText}
-use Rattle.ppclink.specs.Runs.{printed, event_line, event_lines, left_line}
+use Rattle.ppclink.specs.declared.run_text.RunText.{RunText}
+use Rattle.ppclink.specs.Runs.{printed, event_line, event_lines, left_line, address_text}
 use Rattle.ppclink.specs.inside.Reports.{SaysEnd, RunSays}
 
 -- the line of one more call
@@ -51,7 +51,7 @@ says entry budget status segments input new (outcome.Left reason at) text run (s
   progress = Gone reason new;
   reaches = run.0;
   is =
-      ap (λ z. printed 6 (event_lines new.events ++ left_line reason z)) (sym run.1)
+      ap (λ (z : ℕ). printed 6 (event_lines new.events ++ left_line reason (address_text z))) (sym run.1)
       ∙ ap (printed 6) (sym t)
       ∙ ap (λ n. printed n text) (sym s);
 }

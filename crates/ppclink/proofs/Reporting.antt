@@ -14,7 +14,7 @@ use Rattle.ppclink.specs.Requests.{Request, texts, names_asked}
 use Rattle.ppclink.specs.Lines.{unread_line}
 use Rattle.ppclink.specs.Statuses.{KeepsFiles, IsFirstMissing, IsUnread, Says, SaysUnread}
 use Rattle.ppclink.specs.inside.Fetched.{OneCause, ManyCause, FailsAt}
-use Rattle.ppclink.specs.inside.Reports.{Causes, TextReport, UnreadReport, SaysLine}
+use Rattle.ppclink.specs.inside.Reports.{Causes, TextReport, UnreadReport, UnfetchedReport, SaysLine}
 use Rattle.ppclink.proofs.Reading.{length-texts, rose_or}
 
 same_files : (told : Option Files) → SameFiles told told
@@ -113,32 +113,23 @@ one_unread old new found name Failed a unread fails report =
 one_unread old new found name Memory a unread same report =
     subst (Causes old new found) (sym report) (keeps_same old new same)
 
--- the name with a number, as its bytes
-index-texts : (names : List (String Global)) (i : ℕ) (d : String Global) →
-    i < length names →
-    slice_index_or (texts names) i [] ≡ string_bytes (get_or names i d)
-index-texts [] i d lt = absurd (omega arith)
-index-texts (n ∷ names) zero d lt = refl
-index-texts (n ∷ names) (suc i) d lt = index-texts names i d (omega arith)
-
 -- the report where one of many couldn't be read
-pub many_unread : (old new : StoreState) (found : Option Request) (names : List (String Global)) (name : String Global) (i : ℕ)
-    (e : Unfetched) (line : List ℕ) (text : Result (Vec ℕ Global) NoRoom) (a : Report) →
-    names_asked found ≡ texts names →
-    e ≡ unfetched.Failed i →
-    line ≡ string_bytes (get_or names i name) →
-    ManyCause old new (texts names) e →
-    IfOk text (λ t. t.items ≡ unread_line line) →
-    MatchResult text (λ t. a ≡ Text 3 t) (λ e. a ≡ NoMemory) →
+pub many_unread : (old new : StoreState) (found : Option Request) (names : List (List ℕ)) (cause : Unfetched) (a : Report) →
+    ((name : List ℕ) → IsUnread old new names name → IsUnread old new (names_asked found) name) →
+    ManyCause old new names cause →
+    UnfetchedReport names cause a →
     Causes old new found a
-many_unread old new found names name i e line text a asked-is failed line-is cause text-is is =
-    let fails : FailsAt old new (texts names) i = subst (ManyCause old new (texts names)) failed cause in
-    let lt : i < length names = subst (λ n. i < n) (length-texts names) fails.among in
-    let here : SaysUnread old new found 3 (unread_line line) = record {
-      name = slice_index_or (texts names) i [];
-      unread = subst (λ ns. IsUnread old new ns (slice_index_or (texts names) i [])) (sym asked-is) fails.unread;
-      status_is = refl;
-      text_is = ap unread_line (line-is ∙ sym (index-texts names i name lt));
-    } in
+many_unread old new found names (unfetched.Failed i) a unread fails report =
+    let name : List ℕ = slice_index_or names i [] in
     text_causes old new found a (keeps_only old new fails.unread.kept)
-    (text_says (Says old new found) 3 (unread_line line) text a (inr (inl here)) text-is is)
+    (text_follows (SaysLine name) (Says old new found) a
+    (λ status text says.
+    inr (inl (record {
+      name = name;
+      unread = unread name fails.unread;
+      status_is = says.status_is;
+      text_is = says.text_is;
+    })))
+    report)
+many_unread old new found names unfetched.Memory a unread same report =
+    subst (Causes old new found) (sym report) (keeps_same old new same)

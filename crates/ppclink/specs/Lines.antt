@@ -34,17 +34,25 @@ place_text (Section i) = section_text i
 place_text (Symbol j) = codes " symbol " ++ decimal j
 place_text (Record i k) = codes " record " ++ decimal i ++ codes " " ++ decimal k
 
--- where the field of a record is; the offset in hexadecimal digits
+-- an offset in a section, in hexadecimal digits
+abbrev pub offset_text : ℕ → ℕ → List ℕ
+offset_text section offset = section_text section ++ codes " offset 0x" ++ digits 16 false offset
+
+-- where the field of a record is
 abbrev pub site_text : Site → List ℕ
-site_text site = section_text site.section ++ codes " offset 0x" ++ digits 16 false site.offset
+site_text site = offset_text site.section site.offset
 
 -- what is wrong at a place of a file
 abbrev pub about : List ℕ → List ℕ → List ℕ → List ℕ
 about name place what = line (name ++ place ++ codes ": " ++ what)
 
+-- a file has more bytes than it may have
+abbrev pub too_long_line : List ℕ → List ℕ
+too_long_line name = about name [] (codes "file too long")
+
 -- the line of a refusal, where each file is called by its number so; the refusal that memory was refused has none
 abbrev pub refusal_text : (ℕ → List ℕ) → Refusal → List ℕ
-refusal_text called (FileTooLong file) = about (called file) [] (codes "file too long")
+refusal_text called (FileTooLong file) = too_long_line (called file)
 refusal_text called (NotElf file) = about (called file) [] (codes "not an ELF file")
 refusal_text called (NotPpc64Le file) = about (called file) [] (codes "not little-endian ppc64")
 refusal_text called (SharedObject file) = about (called file) [] (codes "shared object")

@@ -6,7 +6,7 @@ use Rattle.link_engine.specs.Link.{placement_limit}
 use Rattle.link_engine.specs.Options.{LinkOptions}
 use Rattle.ppc_archive.specs.Expand.{NamedFile, NamedRefusal, ChoosesTo}
 use Rattle.ppclink.specs.Jobs.{fetched, contents_in_job}
-use Rattle.ppclink.specs.Requests.{Request, link_to, show_file, run_image, names_of, names_asked, out_of}
+use Rattle.ppclink.specs.Requests.{Request, link_to, show_file, run_image, check_job, names_of, names_asked, out_of}
 use Rattle.ppclink.specs.Lines.{usage_line, unread_line}
 use Rattle.ppclink.specs.Runs.{Response, printed, written}
 use Rattle.ppclink.specs.Responses.{first_missing, contents_in, RespondsOver, ComesTo}
@@ -115,7 +115,7 @@ abbrev pub status_of : Response → ℕ
 status_of (printed status text) = status
 status_of (written out image) = 0
 
--- a link counts a step for each time that it places a text, and none where its files are refused before it
+-- a job counts a step for each time that it places a text, and none where its files are refused before it
 abbrev pub CountsJob : LinkOptions → Result (List NamedFile) NamedRefusal → ℕ → ℕ → Type 0
 CountsJob options (Err fault) old new = new ≡ old
 CountsJob options (Ok job) old new = new ≤ old + placement_limit (contents_in_job job) options
@@ -131,11 +131,12 @@ abbrev pub CountsOver : Option Files → LinkOptions → List (List ℕ) → ℕ
 CountsOver None options names old new = (contents : List (List ℕ)) × CountsFor options names contents old new
 CountsOver (Some files) options names old new = CountsFor options names (contents_in files names) old new
 
--- no other request counts one
+-- a link and a check count so, and no other request counts one
 abbrev pub CountsBy : Option Files → Request → ℕ → ℕ → Type 0
 CountsBy told (link_to out options names) old new = CountsOver told options names old new
 CountsBy told (show_file name) old new = new ≡ old
 CountsBy told (run_image options image) old new = new ≡ old
+CountsBy told (check_job options run names) old new = CountsOver told options names old new
 
 -- how far the counter of steps goes
 abbrev pub Ticks : StoreState → Option Request → ℕ → ℕ → Type 0

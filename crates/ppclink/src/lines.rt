@@ -3,7 +3,7 @@ ghost use Rattle.std.specs.Prelude.{◌≡◌, ◌≢◌, ◌++◌, decimal, cod
 ghost use Rattle.std.specs.Fmt.{digits, signed_decimal};
 ghost use Rattle.ppc_archive.specs.Expand.{named_refusal};
 ghost use Rattle.ppclink.specs.Requests.{texts};
-ghost use Rattle.ppclink.specs.Lines.{line, usage_line, unread_line, name_in, section_text, place_text, site_text, about, refusal_text, refusal_line, fault_line};
+ghost use Rattle.ppclink.specs.Lines.{line, usage_line, unread_line, name_in, section_text, place_text, offset_text, site_text, about, too_long_line, refusal_text, refusal_line, fault_line};
 ghost use Rattle.ppclink.specs.Jobs.{names_of_files};
 ghost use Rattle.ppclink.specs.inside.Names.{called};
 
@@ -22,8 +22,8 @@ fn line(alloc: Global, text: &[u8]) -> Result<Vec<u8>, Memory>
     Ok(whole)
 }
 
-// Two texts, one after the other.
-fn joined(alloc: Global, front: &[u8], back: &[u8]) -> Result<Vec<u8>, Memory>
+/// Two texts, one after the other.
+pub fn joined(alloc: Global, front: &[u8], back: &[u8]) -> Result<Vec<u8>, Memory>
     ensures { IfOk result (λ l. l.items ≡ front.now ++ back.now) }
 {
     let mut text = Vec::from_slice(alloc, front)?;
@@ -69,12 +69,12 @@ fn place_text(alloc: Global, place: Place) -> Result<Vec<u8>, Memory>
     }
 }
 
-fn site_text(alloc: Global, site: &Site) -> Result<Vec<u8>, Memory>
-    ensures { IfOk result (λ text. text.items ≡ site_text site.now) }
+/// An offset in a section.
+pub fn offset_text(alloc: Global, section: u32, offset: u64) -> Result<Vec<u8>, Memory>
+    ensures { IfOk result (λ text. text.items ≡ offset_text section offset) }
 {
-    let section = numbered(alloc, b" section ", site.section)?;
+    let section = numbered(alloc, b" section ", section)?;
     let front = joined(alloc, &section, b" offset 0x")?;
-    let offset = site.offset;
     let digits = format!(in alloc; "{offset:x}")?;
     joined(alloc, &front, digits.as_bytes())
 }
@@ -90,6 +90,13 @@ pub fn about(alloc: Global, name: &[u8], place: &[u8], what: &[u8]) -> Result<Ve
     line(alloc, &text)
 }
 
+/// The line for a file of more bytes than it may have.
+pub fn too_long_line(alloc: Global, name: &str) -> Result<Vec<u8>, Memory>
+    ensures { IfOk result (λ text. text.items ≡ too_long_line name.now) }
+{
+    about(alloc, name.as_bytes(), b"", b"file too long")
+}
+
 /// The name of a file among words; it is empty where there is no such file.
 fn word_at(names: &[String], file: u32) -> &[u8]
     ensures { result.now ≡ name_in (texts names.now) file }
@@ -101,7 +108,7 @@ fn word_at(names: &[String], file: u32) -> &[u8]
 }
 
 /// The name of a file among files; it is empty where there is no such file.
-fn file_name_at(files: &[FileBytes], file: u32) -> &[u8]
+pub fn file_name_at(files: &[FileBytes], file: u32) -> &[u8]
     ensures { result.now ≡ name_in (names_of_files files.now) file }
 {
     match files.get(file as usize) {
@@ -168,7 +175,7 @@ impl Lines<'_> {
             ≡ about (called self.now.names site.now.file) (site_text site.now)
             what.now) }
     {
-        let place = site_text(self.alloc, site)?;
+        let place = offset_text(self.alloc, site.section, site.offset)?;
         about(self.alloc, self.name(site.file), &place, what)
     }
 
@@ -213,6 +220,7 @@ impl Lines<'_> {
         text.extend_from_slice(name)?;
         line(self.alloc, &text)
     }
+
     // What is wrong at a place of a file, with the place at its end.
     fn file_offset(&self, file: u32, what: &[u8], at: u64) -> Result<Vec<u8>, Memory>
         ensures { IfOk result (λ text. text.items

@@ -1,7 +1,10 @@
 //! The linker's command: words in, a status and text out, over files and a console.
 #![tactic(auto)]
 
+mod checking;
 mod fetching;
+mod inputs;
+mod jobs;
 mod lines;
 mod numbers;
 mod perform;

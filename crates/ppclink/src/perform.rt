@@ -12,118 +12,21 @@ ghost use Rattle.ppclink.specs.inside.Commands.{link_options, CanLink};
 ghost use Rattle.ppclink.specs.inside.Fetched.{HaveRead};
 ghost use Rattle.ppclink.specs.inside.Reports.{Causes, JobReport, ReplaceReport, TextReport, ShowsFile};
 
-use crate::fetching::{Unfetched, fetch, fetch_files};
-use crate::lines::{fault_line, job_line, refusal_line, unread_line, usage_line};
+use crate::checking::perform_check;
+use crate::fetching::fetch;
+use crate::jobs::perform_link;
+use crate::lines::{refusal_line, usage_line};
 use crate::report::{Report, text_report, unread_report};
 use crate::running::perform_run;
 use crate::show::shown;
-use crate::words::{Command, LinkOptions, parse};
+use crate::words::{Command, parse};
 use elf64_records::{FILE_LIMIT, ObjectView};
-use link_engine::{FileBytes, Options, Refusal, Steps, link};
+use link_engine::{Refusal, Steps};
 use object_set::refusal_of;
-use ppc_archive::{ChooseFault, choose};
-use ppc_bytes::Memory;
-use ppc_outside::{OutsideError, Store};
+use ppc_outside::Store;
 use std::alloc::Global;
 use std::slice;
 use std::sync::ledger::Ledger;
-
-// The executable takes the place of the named file.
-fn write_out<S: Store>(out: &str, image: &[u8], store: &mut S) -> Report
-    ensures { ReplaceReport (S.state store.old) (S.state store.new) out.now image.now result }
-{
-    match store.replace(out, image) {
-        Ok(()) => Report::Written,
-        Err(OutsideError::Failed) => Report::Unwritten,
-        Err(OutsideError::Memory) => Report::NoMemory,
-    }
-}
-
-// The options as the link takes them.
-fn options_of(alloc: Global, options: LinkOptions<'_>) -> Result<Options, Memory>
-    ensures { IfOk result (λ o. o ≡ link_options options.entry) }
-{
-    Ok(Options {
-        entry: String::from_str(alloc, options.entry)?,
-        branch_span: options.branch_span,
-        toc_span: options.toc_span,
-    })
-}
-
-// Links the files of a job, and writes the executable.
-fn link_job<S: Store, L: Ledger>(
-    alloc: Global,
-    out: &str,
-    options: &Options,
-    job: &[FileBytes],
-    store: &mut S,
-    steps: &mut Steps<L>,
-) -> Report
-    requires some { 1 ≤ length job.now }
-    requires few { length job.now ≤ 4096 }
-    requires range { InRange options.now }
-    ensures report { JobReport (S.state store.old) (S.state store.new) out.now options.now
-        (named_files job.now) result }
-    ensures steps { steps.new
-        ≤ steps.old + placement_limit (contents_of job.now) options.now }
-{
-    match link(alloc, job, options, steps) {
-        Ok(linked) => write_out(out, linked.image.as_slice(), store),
-        Err(refusal) => text_report(1, job_line(alloc, job, &refusal)),
-    }
-}
-
-// Links files that were fetched, of which libraries are replaced by their chosen members, and writes the executable.
-fn link_fetched<S: Store, L: Ledger>(
-    alloc: Global,
-    out: &str,
-    options: LinkOptions<'_>,
-    files: Vec<FileBytes>,
-    store: &mut S,
-    steps: &mut Steps<L>,
-) -> Report
-    requires range { InRange (link_options options) }
-    requires few { length files.items ≤ 4096 }
-    requires read { HaveRead (S.state store.old).told (names_of_files files.items)
-        (contents_of files.items) }
-    ensures causes { Causes (S.state store.old) (S.state store.new)
-        (Some (link_to out.now (link_options options.entry) (names_of_files files.items))) result }
-    ensures steps { CountsOver (S.state store.old).told (link_options options.entry)
-        (names_of_files files.items) steps.old steps.new }
-{
-    let Ok(options) = options_of(alloc, options) else {
-        return Report::NoMemory;
-    };
-    match choose(alloc, files, options.entry.as_bytes()) {
-        Ok(job) => link_job(alloc, out, &options, job.as_slice(), store, steps),
-        Err(ChooseFault::Refused { name, refusal }) => {
-            text_report(1, fault_line(alloc, name.as_slice(), &refusal))
-        }
-        Err(ChooseFault::Memory) => Report::NoMemory,
-    }
-}
-
-// Links the named files.
-fn perform_link<S: Store, L: Ledger>(
-    alloc: Global,
-    out: &str,
-    options: LinkOptions<'_>,
-    names: &[String],
-    store: &mut S,
-    steps: &mut Steps<L>,
-) -> Report
-    requires allowed { CanLink (link_options options) (length names.now) }
-    ensures causes { Causes (S.state store.old) (S.state store.new)
-        (Some (link_to out.now (link_options options.entry) (texts names.now))) result }
-    ensures steps { CountsOver (S.state store.old).told (link_options options.entry)
-        (texts names.now) steps.old steps.new }
-{
-    match fetch_files(alloc, names, store) {
-        Ok(files) => link_fetched(alloc, out, options, files, store, steps),
-        Err(Unfetched::Failed(i)) => text_report(3, unread_line(alloc, names[i].as_str())),
-        Err(Unfetched::Memory) => Report::NoMemory,
-    }
-}
 
 // The view of a file's bytes, or why it can't be shown.
 #[tactic(auto, unfolding(object_set::specs::Refusals::fault_refusal))]
@@ -184,6 +87,13 @@ pub fn perform<S: Store, L: Ledger>(
             },
         ) => perform_link(alloc, out, options, files, store, steps),
         Some(Command::Show { file }) => perform_show(alloc, file, store),
+        Some(
+            Command::Check {
+                options,
+                run,
+                files,
+            },
+        ) => perform_check(alloc, options, run, files, store, steps),
         Some(Command::Run { options, image }) => perform_run(alloc, options, image, store),
         None => text_report(2, usage_line(alloc)),
     }

@@ -1,7 +1,9 @@
 // What a command reports before it prints.
-ghost use Rattle.std.specs.Prelude.{◌≡◌, MatchResult};
-ghost use Rattle.ppclink.specs.inside.Reports.{UnreadReport};
+ghost use Rattle.std.specs.Prelude.{◌≡◌, ◌<◌, length, MatchResult};
+ghost use Rattle.ppclink.specs.Requests.{texts};
+ghost use Rattle.ppclink.specs.inside.Reports.{UnreadReport, IsNumbered, UnfetchedReport};
 
+use crate::fetching::Unfetched;
 use crate::lines::unread_line;
 use ppc_bytes::Memory;
 use ppc_outside::OutsideError;
@@ -34,6 +36,17 @@ pub fn text_report(status: u8, text: Result<Vec<u8>, Memory>) -> Report
     match text {
         Ok(text) => Report::Text { status, text },
         Err(Memory) => Report::NoMemory,
+    }
+}
+
+/// The report where files of these names weren't fetched.
+pub fn unfetched_report(alloc: Global, names: &[String], cause: Unfetched) -> Report
+    requires { IsNumbered cause (length names.now) }
+    ensures { UnfetchedReport (texts names.now) cause result }
+{
+    match cause {
+        Unfetched::Failed(i) => text_report(3, unread_line(alloc, names[i].as_str())),
+        Unfetched::Memory => Report::NoMemory,
     }
 }
 

@@ -7,6 +7,15 @@ use power_machine::{Event, Reason};
 use ppc_bytes::Memory;
 use std::alloc::Global;
 
+/// What is printed of a run, and the status.
+#[derive(Drop)]
+pub struct RunText {
+    /// The status.
+    pub status: u8,
+    /// The text.
+    pub text: Vec<u8>,
+}
+
 /// The number of the system call that reads.
 const READ: u64 = 3;
 
@@ -89,13 +98,14 @@ pub fn push_exit(alloc: Global, text: &mut Vec<u8>, status: u8) -> Result<(), Me
 }
 
 /// The text goes on with the last line of a run that left.
-pub fn push_left(alloc: Global, text: &mut Vec<u8>, reason: Reason, at: u64) -> Result<(), Memory>
-    ensures { OnOk result (text.new.items ≡ text.old.items ++ left_line reason at) }
+pub fn push_left(text: &mut Vec<u8>, reason: Reason, place: &[u8]) -> Result<(), Memory>
+    ensures { OnOk result (text.new.items ≡ text.old.items ++ left_line reason place.now) }
 {
     text.extend_from_slice(b"left ")?;
     text.extend_from_slice(reason_name(reason))?;
-    let place = format!(in alloc; " 0x{at:x}\n")?;
-    text.extend_from_slice(place.as_bytes())?;
+    text.extend_from_slice(b" ")?;
+    text.extend_from_slice(place)?;
+    text.extend_from_slice(b"\n")?;
     Ok(())
 }
 

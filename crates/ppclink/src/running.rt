@@ -3,15 +3,16 @@ ghost use Rattle.std.specs.Prelude.{◌≡◌, ◌≢◌, Some, None, IfOk, OnOk
 ghost use Rattle.std.specs.Option.{option_map};
 ghost use Rattle.elf64_exec.specs.Executable.{ArePlaced};
 ghost use Rattle.ppclink.specs.Requests.{run_image};
-ghost use Rattle.ppclink.specs.Runs.{exec_line, long_line, image_limit};
+ghost use Rattle.ppclink.specs.Runs.{exec_line, too_long, image_limit};
 ghost use Rattle.ppclink.specs.inside.Commands.{run_options};
 ghost use Rattle.ppclink.specs.inside.Fetched.{HasRead};
 ghost use Rattle.ppclink.specs.inside.Reports.{Causes, TextReport, RunSays, SaysRun, SaysEnd};
 
 use crate::fetching::fetch;
-use crate::lines::{about, numbered};
+use crate::inputs::fetch_input;
+use crate::lines::{about, numbered, too_long_line};
 use crate::report::{Report, text_report, unread_report};
-use crate::run_text::{event_lines, push_budget, push_exit, push_left};
+use crate::run_text::{RunText, event_lines, push_budget, push_exit, push_left};
 use crate::words::RunOptions;
 use elf64_exec::{ExecFault, Segments, read_exec};
 use power_machine::{Event, Machine, Outcome, World};
@@ -21,9 +22,6 @@ use std::alloc::Global;
 
 /// How many bytes an executable may have.
 const IMAGE_LIMIT: usize = 0x6000_0000;
-
-/// How many bytes the input of a run may have.
-const INPUT_LIMIT: usize = 0x100_0000;
 
 // The line for a file that isn't an executable. That memory was refused has no line, and is an error here too.
 fn exec_line(alloc: Global, name: &str, fault: ExecFault) -> Result<Vec<u8>, Memory>
@@ -41,13 +39,6 @@ fn exec_line(alloc: Global, name: &str, fault: ExecFault) -> Result<Vec<u8>, Mem
     }
 }
 
-/// The status and the text of a run.
-#[derive(Drop)]
-struct RunText {
-    status: u8,
-    text: Vec<u8>,
-}
-
 // What is printed of a run, from its calls and its end.
 fn run_text(alloc: Global, events: &[Event], outcome: Outcome) -> Result<RunText, Memory>
     ensures { IfOk result (λ r. SaysEnd events.now outcome r.status r.text.items) }
@@ -59,7 +50,8 @@ fn run_text(alloc: Global, events: &[Event], outcome: Outcome) -> Result<RunText
             Ok(RunText { status: 0, text })
         }
         Outcome::Left(reason, at) => {
-            push_left(alloc, &mut text, reason, at)?;
+            let place = format!(in alloc; "0x{at:x}")?;
+            push_left(&mut text, reason, place.as_bytes())?;
             Ok(RunText { status: 6, text })
         }
         Outcome::Budget => {
@@ -104,25 +96,14 @@ fn execute(alloc: Global, name: &str, file: Vec<u8>, input: Vec<u8>, budget: u32
 }
 
 // Runs an executable that was fetched, with its input.
-fn run_fetched(
-    alloc: Global,
-    options: RunOptions<'_>,
-    image: &str,
-    file: Vec<u8>,
-    given: Vec<u8>,
-) -> Report
-    ensures { TextReport (SaysRun image.now file.items given.items options.entry.budget
-        (long_line image.now (run_options options.entry).input file.items given.items)) result }
+fn run_fetched(alloc: Global, image: &str, file: Vec<u8>, given: Vec<u8>, budget: u32) -> Report
+    ensures { TextReport (SaysRun image.now file.items given.items budget
+        (too_long image_limit image.now file.items)) result }
 {
-    if let Some(name) = options.input {
-        if given.len() > INPUT_LIMIT {
-            return text_report(1, about(alloc, name.as_bytes(), b"", b"file too long"));
-        }
-    }
     if file.len() > IMAGE_LIMIT {
-        return text_report(1, about(alloc, image.as_bytes(), b"", b"file too long"));
+        return text_report(1, too_long_line(alloc, image));
     }
-    execute(alloc, image, file, given, options.budget)
+    execute(alloc, image, file, given, budget)
 }
 
 // Fetches the input, if there is one, and runs.
@@ -137,12 +118,9 @@ fn run_with_input<S: Store>(
     ensures { Causes (S.state store.old) (S.state store.new)
         (Some (run_image (run_options options.entry) image.now)) result }
 {
-    let Some(name) = options.input else {
-        return run_fetched(alloc, options, image, file, Vec::new(alloc));
-    };
-    match fetch(alloc, name, INPUT_LIMIT, store) {
-        Ok(given) => run_fetched(alloc, options, image, file, given),
-        Err(error) => unread_report(alloc, name, error),
+    match fetch_input(alloc, options.input, store) {
+        Ok(given) => run_fetched(alloc, image, file, given, options.budget),
+        Err(report) => report,
     }
 }
 

@@ -3,8 +3,10 @@
 // entry of the executable that `x` holds at the end, if it was written.
 ghost use Rattle.std.specs.Prelude.{◌≡◌, ◌<◌};
 
+mod checking;
 mod files;
 mod linking;
+mod listings;
 mod running;
 mod showing;
 

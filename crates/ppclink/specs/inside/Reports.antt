@@ -1,5 +1,5 @@
 -- Why each report comes, and how the console takes it.
-use Rattle.std.specs.Prelude.{ℕ, ◌≡◌, ◌⊎◌, List, [], ◌++◌, Option}
+use Rattle.std.specs.Prelude.{ℕ, ◌≡◌, ◌⊎◌, ◌<◌, List, [], ◌++◌, Option, Err, slice_index_or}
 use Rattle.elf64_exec.specs.declared.layout.Segment.{Segment}
 use Rattle.power_machine.specs.declared.machine.Outcome.{Outcome}
 use Rattle.power_machine.specs.declared.machine.Outcome.TheVariants as outcome
@@ -9,14 +9,18 @@ use Rattle.power_machine.specs.Steps.{NumberProgress, ReachesIn}
 use Rattle.ppc_outside.specs.Outside.{StoreState, ConsoleState, IsReplaced, ReplaceFails, IsUnchanged, Shows, ShowsPart}
 use Rattle.ppc_outside.specs.declared.outside.OutsideError.{OutsideError}
 use Rattle.ppc_outside.specs.declared.outside.OutsideError.TheVariants.{Failed, Memory}
+use Rattle.ppclink.specs.declared.fetching.Unfetched.{Unfetched}
+use Rattle.ppclink.specs.declared.fetching.Unfetched.TheVariants as unfetched
 use Rattle.ppclink.specs.declared.report.Report.{Report}
 use Rattle.ppclink.specs.declared.report.Report.TheVariants.{Text, Written, Unwritten, NoMemory}
 use Rattle.link_engine.specs.Options.{LinkOptions}
-use Rattle.ppc_archive.specs.Expand.{NamedFile}
+use Rattle.ppc_archive.specs.Expand.{NamedFile, NamedRefusal, ChoosesTo}
+use Rattle.plain_run.specs.declared.plain.PlainOutcome.{PlainOutcome}
+use Rattle.plain_run.specs.declared.plain.PlainOutcome.TheVariants as ending
 use Rattle.ppclink.specs.Requests.{Request}
-use Rattle.ppclink.specs.Lines.{unread_line}
-use Rattle.ppclink.specs.Runs.{printed, written, Executes, event_lines, exit_line, left_line, budget_line, progress_response}
-use Rattle.ppclink.specs.Responses.{show_response, view_refusal, JobResponds}
+use Rattle.ppclink.specs.Runs.{printed, written, Executes, event_lines, exit_line, left_line, address_text, budget_line, progress_response}
+use Rattle.ppclink.specs.Lines.{unread_line, fault_line, offset_text}
+use Rattle.ppclink.specs.Responses.{show_response, view_refusal, JobResponds, PlainResponds, FilesRespond}
 use Rattle.ppclink.specs.Statuses.{KeepsFiles, Says, HasWritten, HasNotWritten, IsOfResponse}
 
 -- why each report comes
@@ -58,6 +62,25 @@ JobReport old new out options job Written = GivesJob out options job (IsReplaced
 JobReport old new out options job Unwritten = GivesJob out options job (λ image. ReplaceFails old new out)
 JobReport old new out options job NoMemory = KeepsFiles old new
 
+-- fetched files come to no job, with this status and text
+pub record SaysFault (files : List NamedFile) (entry : List ℕ) (status : ℕ) (text : List ℕ) : Type 0 where
+  pub fault : NamedRefusal
+  pub chooses : ChoosesTo files entry (Err fault)
+  pub status_is : status ≡ 1
+  pub text_is : text ≡ fault_line fault
+
+-- a job's plain run comes to this status and text
+pub record SaysPlain (options : LinkOptions) (budget : ℕ) (input : List ℕ) (job : List NamedFile) (status : ℕ) (text : List ℕ)
+    : Type 0 where
+  pub status_is : IsOfResponse status
+  pub responds : PlainResponds options budget input job (printed status text)
+
+-- so do fetched files
+pub record SaysCheck (options : LinkOptions) (budget : ℕ) (input : List ℕ) (names contents : List (List ℕ)) (status : ℕ)
+    (text : List ℕ) : Type 0 where
+  pub status_is : IsOfResponse status
+  pub responds : FilesRespond (PlainResponds options budget input) options.entry names contents (printed status text)
+
 -- a file that was fetched is shown
 pub record ShowsFile (name b : List ℕ) (status : ℕ) (text : List ℕ) : Type 0 where
   pub is : show_response name b (view_refusal b) ≡ printed status text
@@ -72,12 +95,30 @@ abbrev pub UnreadReport : List ℕ → OutsideError → Report → Type 0
 UnreadReport name Failed report = TextReport (SaysLine name) report
 UnreadReport name Memory report = report ≡ NoMemory
 
+-- the file of so many that wasn't fetched is one of them
+abbrev pub IsNumbered : Unfetched → ℕ → Type 0
+IsNumbered (unfetched.Failed i) count = i < count
+IsNumbered unfetched.Memory count = Unit {0}
+
+-- why files of these names that weren't fetched are reported so
+abbrev pub UnfetchedReport : List (List ℕ) → Unfetched → Report → Type 0
+UnfetchedReport names (unfetched.Failed i) report = TextReport (SaysLine (slice_index_or names i [])) report
+UnfetchedReport names unfetched.Memory report = report ≡ NoMemory
+
 -- what is printed of a run, and its status, from its calls and its end
 abbrev pub SaysEnd : List Event → Outcome → ℕ → List ℕ → Type 0
 SaysEnd events (outcome.Exited code) status text = (status ≡ 0) × (text ≡ event_lines events ++ exit_line code)
-SaysEnd events (outcome.Left reason at) status text = (status ≡ 6) × (text ≡ event_lines events ++ left_line reason at)
+SaysEnd events (outcome.Left reason at) status text = (status ≡ 6) × (text ≡ event_lines events ++ left_line reason (address_text at))
 SaysEnd events outcome.Budget status text = (status ≡ 7) × (text ≡ event_lines events ++ budget_line)
 SaysEnd events outcome.Memory status text = ⊥
+
+-- the same of a plain run, which left in this section of the file with this name, if it did
+abbrev pub SaysPlainEnd : List ℕ → ℕ → List Event → PlainOutcome → ℕ → List ℕ → Type 0
+SaysPlainEnd name own events (ending.Exited code) status text = (status ≡ 0) × (text ≡ event_lines events ++ exit_line code)
+SaysPlainEnd name own events (ending.Left reason section offset) status text =
+    (status ≡ 6) × (text ≡ event_lines events ++ left_line reason (name ++ offset_text own offset))
+SaysPlainEnd name own events ending.Budget status text = (status ≡ 7) × (text ≡ event_lines events ++ budget_line)
+SaysPlainEnd name own events ending.Memory status text = ⊥
 
 -- a program with this input comes to this status and text in at most so many steps
 pub record RunSays (entry : ℕ) (segments : List Segment) (input : List ℕ) (budget status : ℕ) (text : List ℕ) : Type 0 where

@@ -1,4 +1,5 @@
 // The files that the tables name.
+use super::listings::add_listings;
 use elf64_records::constants::{SHF_TLS, STB_LOCAL, STB_WEAK, STT_FUNC};
 use object_builder::{FileHeader, Object, Record, Section, Stated, Symbol};
 use ppc_outside::MemStore;
@@ -339,8 +340,8 @@ fn library(alloc: Global, members: &[(&str, Vec<u8>)]) -> Result<Vec<u8>, Fail> 
     Ok(bytes)
 }
 
-// Libraries: one of a note that is no ELF file, of the smallest object, and of what defines t in a section that can't be linked; one
-// without members; and one with ten bytes that are no header.
+// Libraries: one of a note that is no ELF file, of the smallest object, and of what defines t in a section that can't be linked; one of
+// what begins with a word outside the subset; one without members; and one with ten bytes that are no header.
 fn add_libraries(alloc: Global, store: &mut MemStore) -> Result<(), Fail> {
     let tls = Object {
         sections: &[Section {
@@ -361,6 +362,15 @@ fn add_libraries(alloc: Global, store: &mut MemStore) -> Result<(), Fail> {
     ];
     store.add("l.a", &library(alloc, &members)?)?;
     store.add("empty.a", b"!<arch>\n")?;
+    let zero = Object {
+        sections: &[Section {
+            bytes: ZERO_FIRST,
+            ..SECTION
+        }],
+        ..SMALLEST
+    };
+    let members = [("zero.o/", zero.file(alloc)?)];
+    store.add("z.a", &library(alloc, &members)?)?;
     store.add("cut.a", b"!<arch>\n0123456789")?;
     Ok(())
 }
@@ -370,6 +380,7 @@ pub fn files(alloc: Global) -> Result<MemStore, Fail> {
     let mut store = MemStore::new(alloc);
     add_objects(alloc, &mut store)?;
     add_fronts(alloc, &mut store)?;
+    add_listings(alloc, &mut store)?;
     add_programs(alloc, &mut store)?;
     add_libraries(alloc, &mut store)?;
     store.add("in", b"hi\n")?;

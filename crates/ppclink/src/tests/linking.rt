@@ -117,7 +117,6 @@ link -o x --branch-span 0x100 -e _start t.o | | 2 | ppclink: words not understoo
 show                                | | 2 | ppclink: words not understood |
 show t.o t.o                        | | 2 | ppclink: words not understood |
 show -t.o                           | | 2 | ppclink: words not understood |
-check t.o                           | | 2 | ppclink: words not understood |
 --help                              | | 2 | ppclink: words not understood |";
 
 #[test]

@@ -5,7 +5,7 @@ use Rattle.object_set.specs.Files.{contents_of}
 use Rattle.link_engine.specs.Link.{LinksTo}
 use Rattle.link_engine.specs.laws.Outcomes.{linked_gives}
 use Rattle.ppclink.proofs.Linking.{write_report, refuse_report}
-use Rattle.ppclink.proofs.perform.link_job.Goals as goal
+use Rattle.ppclink.proofs.jobs.link_job.Goals as goal
 
 pub returns-in-Ok-clause-report : goal.returns-in-Ok-clause-report
 returns-in-Ok-clause-report g c =
