@@ -5,10 +5,12 @@ ghost use Rattle.std.specs.Prelude.{◌≡◌, ◌<◌};
 
 mod checking;
 mod files;
+mod leaving;
 mod linking;
 mod listings;
 mod running;
 mod showing;
+mod statements;
 
 use crate::top::command;
 use files::{executable, files};
