@@ -6,6 +6,7 @@ ghost use Rattle.std.specs.Prelude.{◌≡◌, ◌<◌};
 mod checking;
 mod files;
 mod leaving;
+mod libraries;
 mod linking;
 mod listings;
 mod running;
@@ -110,20 +111,26 @@ fn columns_of<'a>(alloc: Global, row: &'a str) -> Result<Vec<&'a str>, AllocErro
     Ok(columns)
 }
 
+// A row's words end over a store as it says.
+fn row_ends(rt: &impl Abort, alloc: Global, row: &str, store: &mut MemStore) -> Result<(), Fail> {
+    let columns = columns_of(alloc, row)?;
+    assert_eq!(rt; columns.len(), 5, "{row}");
+    let mut console = MemConsole::new(alloc);
+    mark(columns[1], store, &mut console)?;
+    let words = words_of(alloc, columns[0])?;
+    let ran = run(alloc, &words, store, &mut console)?;
+    assert_eq!(rt; ran.status, columns[2].parse::<u8>()?, "{row}");
+    let text = text_of(alloc, columns[3])?;
+    assert!(rt; ran.text.as_slice() == text.as_bytes(), "{row}");
+    assert!(rt; ran.out == out_of(alloc, columns[4])?, "{row}");
+    Ok(())
+}
+
 // Each row's words end as it says.
 fn all_end(rt: &impl Abort, alloc: Global, rows: &str) -> Result<(), Fail> {
     for row in rows.lines() {
-        let columns = columns_of(alloc, row)?;
-        assert_eq!(rt; columns.len(), 5, "{row}");
         let mut store = files(alloc)?;
-        let mut console = MemConsole::new(alloc);
-        mark(columns[1], &mut store, &mut console)?;
-        let words = words_of(alloc, columns[0])?;
-        let ran = run(alloc, &words, &mut store, &mut console)?;
-        assert_eq!(rt; ran.status, columns[2].parse::<u8>()?, "{row}");
-        let text = text_of(alloc, columns[3])?;
-        assert!(rt; ran.text.as_slice() == text.as_bytes(), "{row}");
-        assert!(rt; ran.out == out_of(alloc, columns[4])?, "{row}");
+        row_ends(rt, alloc, row, &mut store)?;
     }
     Ok(())
 }

@@ -325,8 +325,8 @@ fn add_programs(alloc: Global, store: &mut MemStore) -> Result<(), Fail> {
     Ok(())
 }
 
-// A library of members with these names, in the form of GNU ar.
-fn library(alloc: Global, members: &[(&str, Vec<u8>)]) -> Result<Vec<u8>, Fail> {
+/// A library of members with these names, in the form of GNU ar.
+pub fn library(alloc: Global, members: &[(String, Vec<u8>)]) -> Result<Vec<u8>, Fail> {
     let mut bytes = Vec::from_slice(alloc, b"!<arch>\n")?;
     for (name, member) in members {
         let size = member.len();
@@ -356,9 +356,9 @@ fn add_libraries(alloc: Global, store: &mut MemStore) -> Result<(), Fail> {
     };
     let note = Vec::from_slice(alloc, b"hello")?;
     let members = [
-        ("note/", note),
-        ("t.o/", SMALLEST.file(alloc)?),
-        ("tls.o/", tls.file(alloc)?),
+        (String::from_str(alloc, "note/")?, note),
+        (String::from_str(alloc, "t.o/")?, SMALLEST.file(alloc)?),
+        (String::from_str(alloc, "tls.o/")?, tls.file(alloc)?),
     ];
     store.add("l.a", &library(alloc, &members)?)?;
     store.add("empty.a", b"!<arch>\n")?;
@@ -369,7 +369,7 @@ fn add_libraries(alloc: Global, store: &mut MemStore) -> Result<(), Fail> {
         }],
         ..SMALLEST
     };
-    let members = [("zero.o/", zero.file(alloc)?)];
+    let members = [(String::from_str(alloc, "zero.o/")?, zero.file(alloc)?)];
     store.add("z.a", &library(alloc, &members)?)?;
     store.add("cut.a", b"!<arch>\n0123456789")?;
     Ok(())
