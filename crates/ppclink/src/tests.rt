@@ -4,11 +4,13 @@
 ghost use Rattle.std.specs.Prelude.{◌≡◌, ◌<◌};
 
 mod checking;
+mod computing;
 mod files;
 mod leaving;
 mod libraries;
 mod linking;
 mod listings;
+mod objects;
 mod running;
 mod showing;
 mod statements;
