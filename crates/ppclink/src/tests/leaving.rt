@@ -97,6 +97,7 @@ const PROLOGUES: &str = "\
 exit 3                | prologue; bl h; nop; exit | prologue; li r3,3; blr
 left prologue at 0x40 | prologue; bl f; nop; exit | prologue; li r3,3; blr
 left value at 0xc     | prologue; mtctr r12; bctr |
+left value at 0x4c    | prologue; bl h; nop; exit | prologue; mtctr r12; bctr
 exit 5                | bl h@notoc; exit \
                       | prologue; addis r9,r2,data@toc@ha; ld r3,data@toc@l(r9); blr
 left prologue at 0x40 | bl f@notoc; exit          | prologue; li r3,3; blr
