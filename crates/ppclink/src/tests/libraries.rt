@@ -92,7 +92,7 @@ const MAY_USE_H: Symbol<'static> = Symbol {
 };
 
 /// `x.o` and `y.o` need each other, and `z.o` can't be linked. `a.o` needs the first, `b.o` the last too.
-const PARTS: [(&str, Object); 6] = [
+static PARTS: [(&str, Object); 6] = [
     (
         "a.o",
         Object {
