@@ -109,7 +109,8 @@ impl<R: Files + AllocGlobal + Drop> DirStore<R> {
         match OpenOptions::new().read(true).open(&self.rt, name) {
             Ok(mut file) => {
                 self.make_room(name, limit, into);
-                read_front(&mut file, limit, into)
+                let _turns = read_front(&mut file, limit, into)?;
+                Ok(())
             }
             Err(_) => Err(OutsideError::Failed),
         }

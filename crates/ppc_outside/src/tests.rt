@@ -124,17 +124,17 @@ impl Read for Trickle<'_> {
 #[test]
 fn a_reader_is_read_to_its_end_or_to_the_limit(rt: HostRuntime) -> Result<(), Fail> {
     let bytes = pattern(rt.alloc(), 0x9001)?;
-    // at most so many bytes a read, the limit, whether the reader fails at its end, and how many bytes come, if they do
-    let rows: [(usize, usize, bool, Option<usize>); 7] = [
-        (1, 0x9001, true, Some(0x9001)),
-        (7, 0x1_0000, false, Some(0x9001)),
-        (0x5000, 0x5003, true, Some(0x5003)),
-        (0x1_0000, 0x9002, false, Some(0x9001)),
-        (0x1_0000, 0, true, Some(0)),
-        (7, 0x9002, true, None),
-        (0x1_0000, 0x9002, true, None),
+    // at most so many bytes a read, the limit, whether the reader fails at its end, how many bytes come, and in how many turns, if they do
+    let rows: [(usize, usize, bool, usize, Option<usize>); 7] = [
+        (1, 0x9001, true, 0x9001, Some(0x9001)),
+        (7, 0x1_0000, false, 0x9001, Some(5268)),
+        (0x5000, 0x5003, true, 0x5003, Some(3)),
+        (0x1_0000, 0x9002, false, 0x9001, Some(4)),
+        (0x1_0000, 0, true, 0, Some(0)),
+        (7, 0x9002, true, 0, None),
+        (0x1_0000, 0x9002, true, 0, None),
     ];
-    for (most, limit, fails, wanted) in rows {
+    for (most, limit, fails, wanted, turns) in rows {
         let mut reader = Trickle {
             rest: &bytes,
             most,
@@ -142,8 +142,8 @@ fn a_reader_is_read_to_its_end_or_to_the_limit(rt: HostRuntime) -> Result<(), Fa
         };
         let mut into = b"<".to_vec(rt.alloc())?;
         let read = read_front(&mut reader, limit, &mut into);
-        assert_eq!(rt; read.is_ok(), wanted.is_some());
-        assert_eq!(rt; into.get(1..), bytes.get(..wanted.unwrap_or(0)));
+        assert_eq!(rt; read.ok(), turns);
+        assert_eq!(rt; into.get(1..), bytes.get(..wanted));
     }
     Ok(())
 }

@@ -2,7 +2,7 @@
 ghost use Rattle.std.specs.Prelude.{◌≡◌, IfOk, OnOk, OnErr};
 ghost use Rattle.std.specs.Bool.{OnTrue, OnFalse};
 ghost use Rattle.std.specs.Io.KnownBytes.{Appends};
-ghost use Rattle.ppc_outside.specs.inside.Transfer.{AppendsFront, AppendsSome, AppendsPart};
+ghost use Rattle.ppc_outside.specs.inside.Transfer.{AppendsFront, AppendsSome, AppendsPart, IsBrief};
 
 use crate::outside::OutsideError;
 use std::io::{Read, Write};
@@ -31,22 +31,24 @@ fn read_some<F: Read>(
     }
 }
 
-/// Appends a reader's first bytes: all that it gives up to its end, or `limit` of them. A turn takes at least one byte, but the last,
-/// which may find the end or an error instead; so there are at most `limit` turns. After an error nothing is appended.
+/// Appends a reader's first bytes: all that it gives up to its end, or `limit` of them, and says how many turns that took. A turn takes
+/// at least one byte, but the last, which may find the end; so there are at most `limit` turns, and at most one more than bytes. After an
+/// error nothing is appended.
 pub fn read_front<F: Read>(
     reader: &mut F,
     limit: usize,
     into: &mut Vec<u8>,
-) -> Result<(), OutsideError>
+) -> Result<usize, OutsideError>
     ensures ok { OnOk result
         (AppendsFront (F.remaining reader.old) limit into.old.items into.new.items) }
+    ensures turns { IfOk result (λ turns. IsBrief limit turns into.old.items into.new.items) }
     ensures err { OnErr result (into.new.items ≡ into.old.items) }
 {
     let start = into.len();
     let mut taken = 0;
-    for _turn in 0..limit {
+    for turn in 0..limit {
         match read_some(reader, limit - taken, into) {
-            Ok(0) => return Ok(()),
+            Ok(0) => return Ok(turn + 1),
             Ok(count) => taken += count,
             Err(error) => {
                 into.truncate(start);
@@ -54,7 +56,7 @@ pub fn read_front<F: Read>(
             }
         }
     }
-    Ok(())
+    Ok(limit)
 }
 
 /// Writes all the bytes, and says whether the writer took them. A turn writes at least one byte: a write that takes nothing of a rest

@@ -5,12 +5,14 @@ ghost use Rattle.std.specs.Prelude.{◌≡◌, ◌<◌};
 
 mod checking;
 mod computing;
+mod devices;
 mod files;
 mod leaving;
 mod libraries;
 mod linking;
 mod listings;
 mod objects;
+mod lying;
 mod running;
 mod showing;
 mod statements;

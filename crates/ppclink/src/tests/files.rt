@@ -12,12 +12,14 @@ const TEXT: &[u8] = b"\x01\x00\x00\x38\x07\x00\x60\x38\x02\x00\x00\x44";
 /// The same behind a word outside the subset.
 const ZERO_FIRST: &[u8] = b"\x00\x00\x00\x00\x07\x00\x60\x38\x02\x00\x00\x44";
 
-const SECTION: Section = Section {
+/// The text of the smallest object.
+pub const SECTION: Section = Section {
     bytes: TEXT,
     ..Section::TEXT
 };
 
-const START: Symbol = Symbol {
+/// Its symbol.
+pub const START: Symbol = Symbol {
     size: 12,
     ..Symbol::START
 };
