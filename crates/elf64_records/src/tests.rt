@@ -1,6 +1,8 @@
 // The smallest object file, its parts, and what is said of files that differ from it in a number or two.
 ghost use Rattle.std.specs.Prelude.{◌≤◌, ◌≡◌, length};
 
+mod views;
+
 use crate::{ElfFault, ObjectView, Place, Rela, SymbolEntry};
 
 /// Bytes, and the place in a file where they stand.
