@@ -5,7 +5,7 @@ use std::test::Fail;
 
 /// `ar qcD` of files called note, even, empty, a_name_of_more_than_sixteen and twice d: GNU ar and llvm-ar write the same bytes. Data
 /// of odd size has a byte more behind it, and a long name stands in a table.
-const WRITTEN: &[u8; 484] = b"!<arch>\n\
+pub const WRITTEN: &[u8; 484] = b"!<arch>\n\
 //                                              30        `\n\
 a_name_of_more_than_sixteen/\n\
 \n\
