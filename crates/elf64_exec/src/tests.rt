@@ -1,6 +1,8 @@
 ghost use Rattle.std.specs.Prelude.{◌≡◌, ◌+◌, ◌<◌, ◌≤◌, ◌∷◌, [], length, IfOk};
 ghost use Rattle.elf64_exec.specs.Executable.{IsImage, IsSound};
 
+mod views;
+
 use crate::{ExecFault, Segment, Segments, read_exec, write_exec};
 use ppc_bytes::{Bytes, Memory, put_half, put_long, put_word};
 use std::alloc::Global;
