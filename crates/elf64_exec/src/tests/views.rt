@@ -81,6 +81,11 @@ fn header_number(b: &[u8], i: u32, at: u128, width: usize) -> u128 {
     number(b, number(b, 32, 8).saturating_add(place), width)
 }
 
+/// How many program headers there are.
+fn headers(b: &[u8]) -> u32 {
+    u32::try_from(number(b, 56, 2)).unwrap_or(0)
+}
+
 /// What is wrong with the file header.
 fn check_header(b: &[u8]) -> Option<ExecFault> {
     if b.get(..4) != Some(b"\x7fELF".as_slice()) {
@@ -133,7 +138,7 @@ fn check(b: &[u8]) -> Option<ExecFault> {
     if let Some(fault) = check_header(b) {
         return Some(fault);
     }
-    for i in 0..number(b, 56, 2) as u32 {
+    for i in 0..headers(b) {
         if is_load(b, i) && !is_good(b, i) {
             return Some(ExecFault::BadSegment(i));
         }
@@ -147,7 +152,7 @@ type Loaded<'a> = (u128, u128, &'a [u8], u128);
 /// The segments that are loaded.
 fn slow_segments<'a>(alloc: Global, b: &'a [u8]) -> Result<Vec<Loaded<'a>>, Fail> {
     let mut list = Vec::new(alloc);
-    for i in 0..number(b, 56, 2) as u32 {
+    for i in 0..headers(b) {
         let from = usize::try_from(header_number(b, i, 8, 8)).unwrap_or(0);
         let stored = usize::try_from(header_number(b, i, 32, 8)).unwrap_or(0);
         if is_load(b, i) && header_number(b, i, 40, 8) > 0 {

@@ -25,6 +25,11 @@ fn number(b: &[u8], at: u128, width: usize) -> u128 {
     number
 }
 
+/// A number that is a count or an index, which is below 2^32.
+fn small_number(n: u128) -> u32 {
+    u32::try_from(n).unwrap_or(u32::MAX)
+}
+
 /// A number in the header of a section.
 fn header_number(b: &[u8], i: u32, at: u128, width: usize) -> u128 {
     let place = u128::from(i).saturating_mul(64).saturating_add(at);
@@ -41,17 +46,17 @@ fn kind(b: &[u8], i: u32) -> u128 {
 
 /// How many sections there are.
 fn sections(b: &[u8]) -> u32 {
-    number(b, 60, 2) as u32
+    small_number(number(b, 60, 2))
 }
 
 /// The section of this number is a string table.
 fn is_names(b: &[u8], i: u128) -> bool {
-    i < u128::from(sections(b)) && kind(b, i as u32) == 3
+    i < u128::from(sections(b)) && kind(b, small_number(i)) == 3
 }
 
 /// The section of this number is kept.
 fn is_kept(b: &[u8], i: u128) -> bool {
-    i != 0 && header_number(b, i as u32, 8, 8) & 2 != 0
+    i != 0 && header_number(b, small_number(i), 8, 8) & 2 != 0
 }
 
 /// A part of the file, or nothing where it passes the end.
@@ -128,7 +133,7 @@ fn check_ranges(b: &[u8]) -> Result<(), ElfFault> {
 
 /// The table of the sections' names.
 fn section_names(b: &[u8]) -> &[u8] {
-    bytes(b, number(b, 62, 2) as u32)
+    bytes(b, small_number(number(b, 62, 2)))
 }
 
 /// The first section whose name doesn't end.
@@ -171,7 +176,7 @@ fn symbols(b: &[u8]) -> u32 {
     if symbol_table(b) == 0 {
         return 0;
     }
-    (header_number(b, symbol_table(b), 32, 8) / 24) as u32
+    small_number(header_number(b, symbol_table(b), 32, 8) / 24)
 }
 
 /// A number in the entry of a symbol.
@@ -183,7 +188,7 @@ fn symbol_number(b: &[u8], j: u32, at: u128, width: usize) -> u128 {
 
 /// The table of the symbols' names.
 fn symbol_names(b: &[u8]) -> &[u8] {
-    bytes(b, header_number(b, symbol_table(b), 40, 4) as u32)
+    bytes(b, small_number(header_number(b, symbol_table(b), 40, 4)))
 }
 
 /// What is wrong with the symbol table, or the first symbol whose name doesn't end.
@@ -214,7 +219,7 @@ fn records(b: &[u8], i: u32) -> u32 {
     if kind(b, i) != 4 || !is_kept(b, header_number(b, i, 44, 4)) {
         return 0;
     }
-    (header_number(b, i, 32, 8) / 24) as u32
+    small_number(header_number(b, i, 32, 8) / 24)
 }
 
 /// What is wrong with a section of records, or the first of them that names no symbol.

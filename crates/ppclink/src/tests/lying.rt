@@ -92,6 +92,21 @@ use SectionField::{
 use SymbolField::{StInfo, StName, StOther, StShndx, StSize, StValue};
 use Table::{Null, Records, SectionNames, SymbolNames, Symbols, Text};
 
+/// A value of one byte.
+fn byte(value: u64) -> u8 {
+    u8::try_from(value).unwrap_or(u8::MAX)
+}
+
+/// A value of two bytes.
+fn half(value: u64) -> u16 {
+    u16::try_from(value).unwrap_or(u16::MAX)
+}
+
+/// A value of four bytes.
+fn word(value: u64) -> u32 {
+    u32::try_from(value).unwrap_or(u32::MAX)
+}
+
 /// The file header of an object in which a field has this value.
 fn header_with(field: Field, value: u64) -> FileHeader {
     let true_header = FileHeader::OBJECT;
@@ -100,31 +115,31 @@ fn header_with(field: Field, value: u64) -> FileHeader {
     };
     match field {
         EiClass => FileHeader {
-            class: value as u8,
+            class: byte(value),
             ..true_header
         },
         EiData => FileHeader {
-            encoding: value as u8,
+            encoding: byte(value),
             ..true_header
         },
         EiVersion => FileHeader {
-            ident_version: value as u8,
+            ident_version: byte(value),
             ..true_header
         },
         EType => FileHeader {
-            kind: value as u16,
+            kind: half(value),
             ..true_header
         },
         EMachine => FileHeader {
-            machine: value as u16,
+            machine: half(value),
             ..true_header
         },
         EVersion => FileHeader {
-            version: value as u32,
+            version: word(value),
             ..true_header
         },
         EFlags => FileHeader {
-            flags: value as u32,
+            flags: word(value),
             ..true_header
         },
         EShoff => FileHeader {
@@ -132,15 +147,15 @@ fn header_with(field: Field, value: u64) -> FileHeader {
             ..true_header
         },
         EShentsize => FileHeader {
-            section_header_size: value as u16,
+            section_header_size: half(value),
             ..true_header
         },
         EShnum => FileHeader {
-            section_count: Some(value as u16),
+            section_count: Some(half(value)),
             ..true_header
         },
         EShstrndx => FileHeader {
-            section_names: Some(value as u16),
+            section_names: Some(half(value)),
             ..true_header
         },
     }
@@ -151,11 +166,11 @@ fn stated(field: SectionField, value: u64) -> Stated {
     let truth = Stated::TRUE;
     match field {
         ShName => Stated {
-            name: Some(value as u32),
+            name: Some(word(value)),
             ..truth
         },
         ShType => Stated {
-            kind: Some(value as u32),
+            kind: Some(word(value)),
             ..truth
         },
         ShFlags => Stated {
@@ -171,11 +186,11 @@ fn stated(field: SectionField, value: u64) -> Stated {
             ..truth
         },
         ShLink => Stated {
-            link: Some(value as u32),
+            link: Some(word(value)),
             ..truth
         },
         ShInfo => Stated {
-            info: Some(value as u32),
+            info: Some(word(value)),
             ..truth
         },
         ShAddralign => Stated {
@@ -201,19 +216,19 @@ fn table_with(table: Table, field: Field, value: u64) -> Stated {
 fn lying_symbol<'a>(symbol: Symbol<'a>, field: SymbolField, value: u64) -> Symbol<'a> {
     match field {
         StName => Symbol {
-            stated_name: Some(value as u32),
+            stated_name: Some(word(value)),
             ..symbol
         },
         StInfo => Symbol {
-            info: value as u8,
+            info: byte(value),
             ..symbol
         },
         StOther => Symbol {
-            other: value as u8,
+            other: byte(value),
             ..symbol
         },
         StShndx => Symbol {
-            section: value as u16,
+            section: half(value),
             ..symbol
         },
         StValue => Symbol { value, ..symbol },
@@ -259,11 +274,11 @@ fn record_with(field: Field, value: u64) -> Record {
             ..RECORD
         },
         RSymbol => Record {
-            symbol: value as u32,
+            symbol: word(value),
             ..RECORD
         },
         RType => Record {
-            kind: value as u32,
+            kind: word(value),
             ..RECORD
         },
         RAddend => Record {
