@@ -1,5 +1,5 @@
-// Each field of the headers of an executable set to 0, to 1, to its greatest value and to the file's length, and so for two fields that
-// stand beside each other: what is loaded is compared with a second reading of the file, whose sums can't wrap.
+// Each field of the headers of an executable set to 0, to 1, to its greatest value, to the file's length and to the ends of memory, and so
+// for two fields that stand beside each other: what is loaded is compared with a second reading of the file, whose sums can't wrap.
 use crate::{ExecFault, read_exec};
 use std::alloc::Global;
 use std::test::Fail;
@@ -230,8 +230,9 @@ const HEADERS: [(usize, &[(usize, usize)]); 4] = [
     (176, &SEGMENT),
 ];
 
-/// What a field is set to: the greatest value is cut to the field's width.
-const VALUES: [u64; 4] = [0, 1, u64::MAX, LENGTH as u64];
+/// What a field is set to: the greatest value is cut to the field's width. The last two are the address at which twelve bytes just fit in
+/// a program's memory, and the next one.
+const VALUES: [u64; 6] = [0, 1, u64::MAX, LENGTH as u64, 0x6FFF_FFF4, 0x6FFF_FFF5];
 
 /// Each field with each value.
 fn all_changes(alloc: Global) -> Result<Vec<Change>, Fail> {
@@ -250,7 +251,7 @@ fn all_changes(alloc: Global) -> Result<Vec<Change>, Fail> {
 fn each_field_is_read_as_a_second_reader_does(rt: HostRuntime) -> Result<(), Fail> {
     assert_eq!(rt; check(&small()), None);
     let changes = all_changes(rt.alloc())?;
-    assert_eq!(rt; changes.len(), 164);
+    assert_eq!(rt; changes.len(), 246);
     for (row, first) in changes.iter().enumerate() {
         let mut b = small();
         change(&mut b, *first);
@@ -260,7 +261,7 @@ fn each_field_is_read_as_a_second_reader_does(rt: HostRuntime) -> Result<(), Fai
 }
 
 /// How many changes stand near one: those of eight fields.
-const NEAR: usize = 32;
+const NEAR: usize = 48;
 
 #[test]
 fn two_fields_are_read_as_a_second_reader_does(rt: HostRuntime) -> Result<(), Fail> {
