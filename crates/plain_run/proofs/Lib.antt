@@ -1,3 +1,4 @@
+pub mod BareText
 pub mod CallMarks
 pub mod DataPointers
 pub mod FieldActions
