@@ -9,3 +9,5 @@ pub mod OneAction
 pub mod OneRun
 pub mod FixedFields
 pub mod PlainEnds
+pub mod JobTexts
+pub mod SoundPlaces
