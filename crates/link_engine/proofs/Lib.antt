@@ -11,3 +11,5 @@ pub mod FixedFields
 pub mod PlainEnds
 pub mod JobTexts
 pub mod SoundPlaces
+pub mod ImageRanges
+pub mod ImageWords

@@ -33,7 +33,7 @@ module _ (files : List (List ℕ)) (pairs : List TextPair) (bare : IsBareText fi
   no_pair : set_refusal files ≡ None → records_refusal files ≡ None → ArePairs files pairs → (i : ℕ) (pair : TextPair) →
       slice_get pairs i ≡ Some pair → ⊥
   no_pair whole none are i pair found =
-      let p = record { section = pair.section; offset = pair.head } in
+      let p : TextPlace = record { section = pair.section; offset = pair.head } in
       let load = load_word files whole none pairs p pair.tail are (get_held pairs i pair found) in
       let no_field = bare p load.word in
       let one = load.alone in
