@@ -41,7 +41,7 @@ pub record ArePlacedTexts (files : List (List ℕ)) (start end : ℕ) (sections 
 
 module _ (files : List (List ℕ)) (plan : LaidData) (sites : List CallSite) (t : KeyedText) (far : List Bool) (places : PlacedText)
     (whole : set_refusal files ≡ None) (job : IsJob files plan sites t far places) where
-  gives : LayoutGives t job.shape.sites.items job.span (member far)
+  pub gives : LayoutGives t job.shape.sites.items job.span (member far)
   gives =
       layout_gives files plan sites t far places job (λ shape span sound. (are_calls shape span sound).keyed)
       (λ shape span sound. (are_calls shape span sound).count) (λ shape span i sound lt. (are_calls shape span sound).numbered i lt)

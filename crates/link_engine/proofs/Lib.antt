@@ -13,3 +13,4 @@ pub mod JobTexts
 pub mod SoundPlaces
 pub mod ImageRanges
 pub mod ImageWords
+pub mod ImagesAgree

@@ -2,5 +2,6 @@ pub mod Options
 pub mod Link
 pub mod Plain
 pub mod Texts
+pub mod Agreement
 pub mod inside
 pub mod laws
