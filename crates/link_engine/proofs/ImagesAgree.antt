@@ -6,6 +6,7 @@ use Rattle.std.proofs.lemmas.List.Elements.{All-nil, All-cons}
 use Rattle.elf64_exec.specs.declared.layout.Segment.{Segment}
 use Rattle.elf64_exec.specs.Executable.{end_of}
 use Rattle.elf64_exec.specs.Loading.{Loads}
+use Rattle.elf64_records.specs.laws.First.{both_none}
 use Rattle.object_set.specs.declared.places.RecordId.{RecordId}
 use Rattle.object_set.specs.declared.places.SectionId.{SectionId}
 use Rattle.object_set.specs.Walks.{IsRecord}
@@ -51,11 +52,11 @@ use Rattle.plain_run.specs.Data.{data_pointers, entry_place as place_of}
 use Rattle.plain_run.specs.Images.{HoldsPointer, IsBareImage, IsBareText, IsTextIn, place_address, with_text}
 use Rattle.plain_run.specs.laws.Starts.{bare_image_agrees}
 use Rattle.plain_run.specs.Standing.{is_word}
+use Rattle.plain_run.proofs.DataHeld.{data_held}
 use Rattle.plain_run.proofs.BareText.{bare_word}
 use Rattle.plain_run.proofs.TextWords.{is_word_at}
-use Rattle.link_engine.specs.declared.files.Linked.{Linked}
 use Rattle.link_engine.specs.Agreement.{ImageAgrees}
-use Rattle.link_engine.specs.Link.{IsLinked, calls_of, entry_address, overflow_at, plan_of, rewriting_by, text_of}
+use Rattle.link_engine.specs.Link.{IsImageOf, calls_of, entry_address, overflow_at, plan_of, rewriting_by, segments_of, text_of}
 use Rattle.link_engine.specs.Options.{InRange, LinkOptions}
 use Rattle.link_engine.specs.Plain.{IsUnrefused, plain_job}
 use Rattle.link_engine.specs.inside.Writing.{IsEntered}
@@ -102,19 +103,18 @@ text_long files plan sites t F p w apart =
 
 -- ---- a link
 
-module _ (files : List (List ℕ)) (options : LinkOptions) (linked : Linked) (range : InRange options)
-    (few : length (text_sections files) < 2 ^ 28) (is : IsLinked files options linked) (bare : IsBareText files) where
+module _ (files : List (List ℕ)) (options : LinkOptions) (text : TextLayout) (image : List ℕ) (range : InRange options)
+    (few : length (text_sections files) < 2 ^ 28) (is : IsImageOf files options text image)
+    (loads : Loads image (entry_address files options text) (segments_of files options text is.pairs is.data_segments))
+    (bare : IsBareText files) where
   abbrev plan : LaidData
   plan = plan_of files options
 
   abbrev sites : List CallSite
   sites = calls_of files options
 
-  abbrev text : TextLayout
-  text = is.text
-
   abbrev pairs : List TextPair
-  pairs = is.image.pairs
+  pairs = is.pairs
 
   abbrev w : Rewriting
   w = rewriting_by files options pairs
@@ -126,16 +126,16 @@ module _ (files : List (List ℕ)) (options : LinkOptions) (linked : Linked) (ra
   code = text_segment plan.text_start bytes
 
   passes : ArePassed files options
-  passes = passed files options is.image.laid.passes
+  passes = passed files options is.laid.passes
 
   job : IsJob files plan sites text.keyed text.far text.places
   job =
-      laid_job files plan sites passes.whole (ready files options is.image.laid.passes)
+      laid_job files plan sites passes.whole (ready files options is.laid.passes)
       (placed_data files options.toc_span passes.whole passes.fits) few options.branch_span text.keyed text.far text.places range.branch
-      is.image.laid.is
+      is.laid.is
 
   rewrites : RewritesPairs files pairs
-  rewrites = is.image.pairs_are.each
+  rewrites = is.pairs_are.each
 
   long : length bytes ≡ text_end text.keyed (member text.far) - plan.text_start
   long =
@@ -206,19 +206,32 @@ module _ (files : List (List ℕ)) (options : LinkOptions) (linked : Linked) (ra
       (word_lies files plan.text_start (text_end text.keyed (member text.far)) text.places.sections lies count passes.whole (place_of place)
       (is_word_at files (place_of place) (record { file = file; section = section }) found is.within is.aligned)).at
 
-  pub linked_image_agrees :
+  agrees_where :
       ((parts : List Segment) → AreDataSegments files options.toc_span text.places.sections parts →
       All (HoldsPointer text.places.sections (start_byte (with_text parts code))) (data_pointers files options.toc_span)) →
-      ImageAgrees files options linked.image.items
-  linked_image_agrees held one parts unrefused =
+      ImageAgrees files options image
+  agrees_where held one parts unrefused =
       let laid = unrefused.laid in
-      let same_text = same_layout files options text unrefused.text is.image.laid laid in
+      let same_text = same_layout files options text unrefused.text is.laid laid in
       let there : AreDataSegments files options.toc_span text.places.sections parts =
       subst (λ (l : TextLayout). AreDataSegments files options.toc_span l.places.sections parts) (sym same_text) unrefused.data_is in
-      let same : is.image.data_segments ≡ parts = one_data files options.toc_span text.places.sections
-      (record { whole = passes.whole; records = passes.records; fits = passes.fits }) is.image.data_segments parts is.image.data_is there in
-      let loads : Loads linked.image.items (place_address text.places.sections (place_of (entry_place files options.entry))) (with_text parts code) =
-      subst (λ (ps : List Segment). Loads linked.image.items (place_address text.places.sections (place_of (entry_place files options.entry))) (with_text ps code)) same
-      (subst (λ (a : ℕ). Loads linked.image.items a (with_text is.image.data_segments code)) (sym entered_at) is.loads) in
+      let same : is.data_segments ≡ parts = one_data files options.toc_span text.places.sections
+      (record { whole = passes.whole; records = passes.records; fits = passes.fits }) is.data_segments parts is.data_is there in
+      let loaded : Loads image (place_address text.places.sections (place_of (entry_place files options.entry))) (with_text parts code) =
+      subst (λ (ps : List Segment). Loads image (place_address text.places.sections (place_of (entry_place files options.entry))) (with_text ps code)) same
+      (subst (λ (a : ℕ). Loads image a (with_text is.data_segments code)) (sym entered_at) loads) in
       bare_image_agrees (plain_job files options one) text.places.sections parts code (bare_image one parts unrefused.pairs_are there)
-      (held parts there) (entry_place files options.entry) linked.image.items loads
+      (held parts there) (entry_place files options.entry) image loaded
+
+  data_passes : (r : RecordId) → IsRecord files r → data_overflow_at files options.toc_span text.places.sections r ≡ None
+  unfolding overflow_at
+  data_passes r here =
+      (both_none (data_overflow_at files options.toc_span text.places.sections r)
+      (text_overflow_at files options.toc_span text.places.sections w r)
+      (none_at files (overflow_at files options.toc_span text.places.sections w) r is.fits here)).0
+
+  pub image_agrees : ImageAgrees files options image
+  image_agrees =
+      agrees_where (λ parts are. data_held files plan text.places.sections parts code
+      (record { whole = passes.whole; records = passes.records; plan_is = plan_is files options.toc_span passes.fits }) are data_passes
+      (omega arith))

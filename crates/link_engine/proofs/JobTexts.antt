@@ -1,5 +1,6 @@
 -- Where the text sections of a job lie: each in one piece, at a multiple of its alignment, apart from the others, and in the text.
-use Rattle.std.proofs.Common.{◌≡◌, ◌≤◌, ◌<◌, ◌+◌, ◌%◌, ℕ, Bool, List, None, Some, slice_get, slice_index, length, sym, ap, ◌∙◌, subst, arith}
+use Rattle.std.proofs.Common.{◌≡◌, ◌≤◌, ◌<◌, ◌+◌, ◌%◌, ◌^◌, ℕ, Bool, List, None, Some, slice_get, slice_index, length, sym, ap, ◌∙◌, subst, arith}
+use Rattle.std.proofs.lemmas.List.{length-map}
 use Rattle.std.proofs.lemmas.Option.{slice_get-get_or}
 use Rattle.elf64_records.specs.Sections.{sh_size}
 use Rattle.object_set.specs.declared.places.SectionId.{SectionId}
@@ -92,3 +93,12 @@ module _ (files : List (List ℕ)) (plan : LaidData) (sites : List CallSite) (t 
         start_some = omega (arith, from_image, planned);
         end_low = omega (arith, within_text, limit, planned, shape_start);
       }
+
+  -- a job has few text sections
+  pub few_texts : length (text_sections files) < 2 ^ 28
+  few_texts =
+      let shape = job.shape_is.sections in
+      let count = ap (λ (l : List ShapeSection). length l) shape in
+      let each = length-map (text_sections files) (section_shape files plan.groups) in
+      let few = job.sound.sections.few in
+      omega (arith, count, each, few)
