@@ -8,6 +8,7 @@ pub mod LoadWords
 pub mod Marking
 pub mod PairActions
 pub mod PairMarks
+pub mod SegmentBytes
 pub mod Standings
 pub mod Stepping
 pub mod TextWords
