@@ -2,6 +2,7 @@ pub mod BareText
 pub mod CallMarks
 pub mod DataPointers
 pub mod FieldActions
+pub mod FieldNumbers
 pub mod FieldParts
 pub mod FieldValues
 pub mod LoadWords
