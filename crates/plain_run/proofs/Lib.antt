@@ -1,5 +1,6 @@
 pub mod BareText
 pub mod CallMarks
+pub mod CodeTargets
 pub mod DataPointers
 pub mod FieldActions
 pub mod FieldNumbers
