@@ -10,6 +10,7 @@ pub mod LoadWords
 pub mod Marking
 pub mod PairActions
 pub mod PairMarks
+pub mod PointersHeld
 pub mod SegmentBytes
 pub mod Standings
 pub mod Stepping
