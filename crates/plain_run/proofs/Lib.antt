@@ -1,11 +1,13 @@
 pub mod BareText
 pub mod CallMarks
 pub mod CodeTargets
+pub mod DataHeld
 pub mod DataPointers
 pub mod FieldActions
 pub mod FieldNumbers
 pub mod FieldParts
 pub mod FieldValues
+pub mod Gathered
 pub mod LoadWords
 pub mod Marking
 pub mod PairActions
