@@ -1,9 +1,8 @@
 -- What goes to a place in text by an addend goes to the same section without one, and an addend moves its address as it moves the place.
-use Rattle.std.proofs.Common.{◌≡◌, ◌+◌, ◌%◌, ◌^◌, ℕ, ℤ, Bool, true, false, List, Option, Some, None, refl, sym, ap, ◌∙◌, arith, if◌then◌else◌, slice_index}
+use Rattle.std.proofs.Common.{◌≡◌, ◌+◌, ◌%◌, ◌^◌, ℕ, ℤ, Bool, true, false, List, Option, Some, None, sym, ap, ◌∙◌, if◌then◌else◌, slice_index}
 use Rattle.std.specs.Prelude.{pos, ◌+ℤ◌, ◌==◌, unwrap_or}
 use Rattle.std.specs.Option.{option_map}
 use Rattle.elf64_records.specs.Symbols.{st_value}
-use Rattle.object_set.specs.declared.places.SymbolId.{SymbolId}
 use Rattle.object_set.specs.declared.sort.Sort.{Sort}
 use Rattle.object_set.specs.declared.sort.Sort.TheVariants.{Text, Zeroed, Toc, Writable, ReadOnly, Dropped}
 use Rattle.object_set.specs.Files.{file_at}
@@ -18,7 +17,6 @@ use Rattle.symbol_table.specs.declared.target.Target.TheVariants.{Code, Number, 
 use Rattle.symbol_table.specs.Candidates.{stands_for}
 use Rattle.symbol_table.specs.Targets.{plus_addend, section_target, index_target, own_target, named_target, external_target, target_of}
 use Rattle.toc_groups.specs.Values.{address_of, symbol_address}
-use Rattle.plain_machine.specs.declared.place.TextPlace.{TextPlace}
 use Rattle.plain_run.specs.Images.{place_address}
 use Rattle.plain_run.proofs.FieldNumbers.{moved_bits}
 

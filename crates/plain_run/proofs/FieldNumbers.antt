@@ -1,11 +1,9 @@
 -- The numbers that fields of 8 and of 4 bytes hold: the bits of a value, which are those of a sum of addresses that wraps round.
-use Rattle.std.proofs.Common.{◌≡◌, ◌<◌, ◌≤◌, ◌+◌, ◌-◌, ◌*◌, ◌/◌, ◌%◌, ◌^◌, ℕ, ℤ, Bool, true, false, List, [], ◌∷◌, take, refl, sym, ap, ◌∙◌, arith, nat_lt, slice_index}
-use Rattle.std.specs.Prelude.{pos, negsuc, neg_ℤ, ◌+ℤ◌, ◌-ℤ◌, ◌≤ℤ◌, ◌<ℤ◌, int_lt, not, ◌&&◌}
-use Rattle.std.specs.Int.{w32, w64, cast_signed, cast_unsigned}
+use Rattle.std.proofs.Common.{◌≡◌, ◌<◌, ◌≤◌, ◌+◌, ◌-◌, ◌*◌, ◌/◌, ◌%◌, ◌^◌, ℕ, ℤ, Bool, true, false, List, [], ◌∷◌, take, refl, ◌∙◌, arith, nat_lt}
+use Rattle.std.specs.Prelude.{pos, negsuc, neg_ℤ, ◌+ℤ◌, ◌-ℤ◌, int_lt, not, ◌&&◌}
+use Rattle.std.specs.Int.{w64, cast_signed}
 use Rattle.std.proofs.lemmas.Bool.Decides.{nat_tests}
-use Rattle.std.proofs.lemmas.Bool.{cases_lt}
 use Rattle.std.proofs.lemmas.Int.{ints}
-use Rattle.std.proofs.lemmas.List.{get_or-take}
 use Rattle.byteorder.specs.Endian.{little_bytes}
 use Rattle.elf64_records.specs.Records.{r_addend}
 use Rattle.power_insns.specs.declared.meaning.Sign.TheVariants.{Signed}
@@ -17,7 +15,7 @@ use Rattle.ppc_bytes.specs.Halves.{low_of}
 use Rattle.ppc_bytes.specs.laws.Halves.{low_of-rest, low_of-lt}
 use Rattle.reloc_fields.specs.Table.Check.{signed_32}
 use Rattle.symbol_table.specs.Targets.{plus_addend}
-use Rattle.toc_groups.specs.Values.{is_signed, passes}
+use Rattle.toc_groups.specs.Values.{passes}
 
 -- ---- bytes
 

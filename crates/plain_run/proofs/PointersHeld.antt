@@ -1,6 +1,6 @@
 -- Memory at the start of an image holds what the fields of records in data, and the slots, hold of places in text.
-use Rattle.std.proofs.Common.{◌≡◌, ◌<◌, ◌≤◌, ◌+◌, ◌*◌, ◌-◌, ◌/◌, ◌%◌, ◌^◌, inl, inr, ℕ, ℤ, zero, suc, Bool, true, false, not, List, [], ◌∷◌, length, map, take, replicate, Option, Some, None, refl, sym, ap, subst, ◌∙◌, arith, if◌then◌else◌, slice_index}
-use Rattle.std.specs.Prelude.{pos, ◌+ℤ◌, ◌-ℤ◌, slice_get}
+use Rattle.std.proofs.Common.{◌≡◌, ◌<◌, ◌+◌, ◌*◌, ◌-◌, ◌/◌, ◌%◌, ◌^◌, inl, inr, ℕ, ℤ, zero, suc, Bool, true, false, not, List, [], length, map, take, replicate, Some, None, refl, sym, ap, subst, ◌∙◌, arith, if◌then◌else◌, slice_index}
+use Rattle.std.specs.Prelude.{pos, ◌+ℤ◌, ◌-ℤ◌}
 use Rattle.std.specs.List.{range_with_len}
 use Rattle.std.proofs.Math.Nat.{mod-lt}
 use Rattle.std.proofs.lemmas.List.{get_or-take}
@@ -12,33 +12,26 @@ use Rattle.elf64_records.specs.Sections.{section_bytes}
 use Rattle.elf64_exec.specs.declared.layout.Segment.{Segment}
 use Rattle.object_set.specs.declared.places.RecordId.{RecordId}
 use Rattle.object_set.specs.declared.places.SymbolId.{SymbolId}
-use Rattle.object_set.specs.declared.refusal.Refusal.{Refusal}
 use Rattle.object_set.specs.declared.refusal.Refusal.TheVariants.{Overflow}
 use Rattle.object_set.specs.Files.{file_at}
-use Rattle.object_set.specs.Refusals.{set_refusal}
-use Rattle.object_set.specs.Sections.{sort_of}
 use Rattle.power_insns.specs.declared.meaning.Width.{Width}
 use Rattle.power_insns.specs.declared.meaning.Width.TheVariants.{Byte, Half, Word, Long}
 use Rattle.power_insns.specs.declared.meaning.Sign.TheVariants.{Signed}
-use Rattle.power_insns.specs.Arithmetic.{bytes_of, widened}
+use Rattle.power_insns.specs.Arithmetic.{widened}
 use Rattle.power_machine.specs.Bytes.{bytes_of_long}
 use Rattle.power_machine.specs.Memory.{bytes_from}
 use Rattle.power_machine.specs.Start.{start_byte}
 use Rattle.power_machine.specs.laws.Related.{Pairwise}
-use Rattle.ppc_bytes.specs.Bytes.{InSigned, number_at}
+use Rattle.ppc_bytes.specs.Bytes.{number_at}
 use Rattle.ppc_bytes.specs.Halves.{low_of}
 use Rattle.reloc_fields.specs.declared.kind.Kind.{Kind}
 use Rattle.reloc_fields.specs.declared.kind.Kind.TheVariants as kinds
 use Rattle.reloc_fields.specs.Table.{line_of}
-use Rattle.reloc_fields.specs.Table.Check.{signed_32}
-use Rattle.symbol_table.specs.declared.target.Target.{Target}
 use Rattle.symbol_table.specs.declared.target.Target.TheVariants.{Code}
 use Rattle.symbol_table.specs.Records.{site_of}
-use Rattle.symbol_table.specs.Sites.{is_data_sort}
 use Rattle.symbol_table.specs.Targets.{target_of}
 use Rattle.toc_groups.specs.Contents.{HoldsBytes, HoldsData, IsDataField, IsSlot, data_segments, field_bytes}
-use Rattle.toc_groups.specs.Data.{data_refusal, group_slots}
-use Rattle.toc_groups.specs.Groups.{group_count}
+use Rattle.toc_groups.specs.Data.{group_slots}
 use Rattle.toc_groups.specs.Parts.{slot_place}
 use Rattle.toc_groups.specs.Plans.{data_ends}
 use Rattle.toc_groups.specs.Values.{data_overflow_at, field_address, kind_overflow, passes, record_overflow, record_value, symbol_address}
@@ -48,17 +41,14 @@ use Rattle.toc_groups.proofs.FieldFilling.{AreSound, field_at, field_long}
 use Rattle.toc_groups.proofs.FieldOverflow.{field_range}
 use Rattle.toc_groups.proofs.Rooms.{slot_range}
 use Rattle.plain_machine.specs.declared.place.TextPlace.{TextPlace}
-use Rattle.plain_machine.specs.declared.pointer.PlacedPointer.{PlacedPointer}
-use Rattle.plain_machine.specs.declared.pointer.Pointer.{Pointer}
 use Rattle.plain_machine.specs.declared.pointer.Pointer.TheVariants.{Address, Difference, Unknown}
 use Rattle.plain_machine.specs.declared.value.Cell.{Cell}
 use Rattle.plain_machine.specs.declared.value.Cell.TheVariants as cell
-use Rattle.plain_machine.specs.Plain.{junk_cells}
 use Rattle.plain_machine.specs.laws.Meaning.{difference}
 use Rattle.plain_run.specs.Data.{data_address, field_width, pointer_of}
 use Rattle.plain_run.specs.Images.{HoldsPointer, MeansByte, place_address, with_text}
 use Rattle.plain_run.proofs.CodeTargets.{symbol_place, moved_place}
-use Rattle.plain_run.proofs.FieldNumbers.{addend_near, distance_bits, long_bytes, low_word, put_word, word_bytes, word_near, word_widened}
+use Rattle.plain_run.proofs.FieldNumbers.{addend_near, distance_bits, long_bytes, put_word, word_bytes, word_near, word_widened}
 use Rattle.plain_run.proofs.SegmentBytes.{data_byte}
 
 -- ---- pieces in memory
@@ -70,16 +60,15 @@ module _ (sections : List ℕ) (byte : ℕ → ℕ) where
   pieces_held piece i zero at each = tt
   pieces_held piece i (suc n) at each =
       let here : i + 0 ≡ i = omega arith in
-      let there : at + 0 ≡ at = omega arith in
-      (
+      let there : at + 0 ≡ at = omega arith in (
         subst (λ (a : ℕ). MeansByte sections (piece i) (byte a)) there
-        (subst (λ (j : ℕ). MeansByte sections (piece j) (byte (at + 0))) here (each 0 (omega arith))),
+            (subst (λ (j : ℕ). MeansByte sections (piece j) (byte (at + 0))) here (each 0 (omega arith))),
         pieces_held piece (i + 1) n (at + 1)
-        (λ k less.
-        let next : i + suc k ≡ i + 1 + k = omega arith in
-        let behind : at + suc k ≡ at + 1 + k = omega arith in
-        subst (λ (a : ℕ). MeansByte sections (piece (i + 1 + k)) (byte a)) behind
-        (subst (λ (j : ℕ). MeansByte sections (piece j) (byte (at + suc k))) next (each (suc k) (omega (arith, less))))),
+            (λ k less.
+            let next : i + suc k ≡ i + 1 + k = omega arith in
+            let behind : at + suc k ≡ at + 1 + k = omega arith in
+            subst (λ (a : ℕ). MeansByte sections (piece (i + 1 + k)) (byte a)) behind
+            (subst (λ (j : ℕ). MeansByte sections (piece j) (byte (at + suc k))) next (each (suc k) (omega (arith, less))))),
       )
 
   -- bytes of which nothing is known hold anything
@@ -247,7 +236,7 @@ module _ (files : List (List ℕ)) (span : ℕ) (sections : List ℕ) (text : Se
   field_held r p kind goes none = by_kind kind where
     by_kind : (kind : Kind) → FieldHeld r p kind
     by_kind = elim [
-      kinds.Addr64 ↦ λ field. address_field r p field goes
+      | kinds.Addr64 ↦ λ field. address_field r p field goes
       | kinds.Rel32 ↦ λ field. distance_field r p field goes none
       | other ↦ λ field. unknown_held sections image_byte (data_address files span r) (field_width other)
     ]
