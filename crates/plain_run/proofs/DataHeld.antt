@@ -16,8 +16,8 @@ use Rattle.plain_run.specs.inside.Data.{IsSoundPlan}
 use Rattle.plain_run.proofs.Gathered.{all_pointers}
 use Rattle.plain_run.proofs.PointersHeld.{field_held, slot_held}
 
--- where no value of a field in data is refused: the places, and the distances of places, that data holds at the start of a plain run stand in
--- the image as their sections' addresses make them
+-- Where no value of a field in data is refused, the places and the distances of places that data holds at the start of a plain run stand in
+-- the image as the addresses of its text sections make them. A segment that comes first has its bytes, so where text begins plays no part.
 pub data_held : (files : List (List ℕ)) (plan : LaidData) (sections : List ℕ) (segments : List Segment) (text : Segment) →
     IsSoundPlan files plan → AreDataSegments files plan.span sections segments →
     ((r : RecordId) → IsRecord files r → data_overflow_at files plan.span sections r ≡ None) →
