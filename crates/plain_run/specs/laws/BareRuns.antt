@@ -213,9 +213,11 @@ module _ (job : PlainJob) (sections : List ℕ) (segments : List Segment) (text 
     by_end None same step =
         let to = step_followed r r' q h step in
         (to.0, subst (λ (o : Option ℕ). StepsFrom (IsNumberStep ranges) q o (Went to.0)) same to.1, to.2)
-    by_end (Some status) same step =
-        (q, subst (λ (o : Option ℕ). StepsFrom (IsNumberStep ranges) q o (Went q)) same refl,
-         subst (λ (u : PlainRun). RunsMatch u q) (sym (went_same r' r step)) h)
+    by_end (Some status) same step = (
+      q,
+      subst (λ (o : Option ℕ). StepsFrom (IsNumberStep ranges) q o (Went q)) same refl,
+      subst (λ (u : PlainRun). RunsMatch u q) (sym (went_same r' r step)) h,
+    )
 
   -- while the image waits for nothing
   abbrev Sim : ℕ → PlainRun → NumberRun → Type 0

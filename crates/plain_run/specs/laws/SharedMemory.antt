@@ -52,10 +52,11 @@ module _ (sections : List ℕ) (start : ℕ → ℕ) (text : Segment) where
       SharesMemory sections start text f g → Pairwise (MeansByte sections) (bytes_from f a count) (bytes_from g a count)
   loaded_shared f g a zero out h = tt
   loaded_shared f g a (suc n) out h =
-      let here : a + 0 ≡ a = omega arith in
-      (h.outside a (subst (IsOutside text) here (out 0 (omega arith))),
-       loaded_shared f g (a + 1) n (λ k less. let next : a + suc k ≡ a + 1 + k = omega arith in
-       subst (IsOutside text) next (out (suc k) (omega (arith, less)))) h)
+      let here : a + 0 ≡ a = omega arith in (
+        h.outside a (subst (IsOutside text) here (out 0 (omega arith))),
+        loaded_shared f g (a + 1) n (λ k less. let next : a + suc k ≡ a + 1 + k = omega arith in
+            subst (IsOutside text) next (out (suc k) (omega (arith, less)))) h,
+      )
 
   -- bytes that are stored
   pub put_shared : (f : ℕ → Cell) (g : ℕ → ℕ) (a count : ℕ) (xs : List Cell) (ys : List ℕ) → length xs ≤ count →

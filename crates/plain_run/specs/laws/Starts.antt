@@ -130,16 +130,16 @@ module _ (job : PlainJob) (sections : List ℕ) (segments : List Segment) (text 
         events = refl;
         ended = refl;
       } where
-    registers_match : Pairwise (MeansValue sections) (start_state (entry_place entry) segments).registers
-        (start_run begins (with_text segments text) input answers).state.registers
-    registers_match =
-        pairwise_set (MeansValue sections) (slice_set (replicate 34 (Number 0)) 1 (Number 0x7FFFF000)) (slice_set (replicate 34 0) 1 0x7FFFF000) 12 (Code (entry_place entry)) begins refl
-        (pairwise_set (MeansValue sections) (replicate 34 (Number 0)) (replicate 34 0) 1 (Number 0x7FFFF000) 0x7FFFF000 refl
-        (all_alike (MeansValue sections) 34 (Number 0) 0 refl))
+        registers_match : Pairwise (MeansValue sections) (start_state (entry_place entry) segments).registers
+            (start_run begins (with_text segments text) input answers).state.registers
+        registers_match =
+            pairwise_set (MeansValue sections) (slice_set (replicate 34 (Number 0)) 1 (Number 0x7FFFF000)) (slice_set (replicate 34 0) 1 0x7FFFF000) 12 (Code (entry_place entry)) begins refl
+            (pairwise_set (MeansValue sections) (replicate 34 (Number 0)) (replicate 34 0) 1 (Number 0x7FFFF000) 0x7FFFF000 refl
+            (all_alike (MeansValue sections) 34 (Number 0) 0 refl))
 
-    bits_match : Pairwise MeansBit (start_state (entry_place entry) segments).condition
-        (start_run begins (with_text segments text) input answers).state.condition
-    bits_match = all_alike MeansBit 32 (Some false) false refl
+        bits_match : Pairwise MeansBit (start_state (entry_place entry) segments).condition
+            (start_run begins (with_text segments text) input answers).state.condition
+        bits_match = all_alike MeansBit 32 (Some false) false refl
 
   -- An executable of this image agrees with the plain run.
   pub bare_image_agrees : (file : List ℕ) → Loads file begins (with_text segments text) → Agrees job entry segments file
