@@ -1,48 +1,41 @@
 -- The text of an image has the words of the files where no record is about them.
-use Rattle.std.proofs.Common.{◌≡◌, ◌≤◌, ◌<◌, ◌+◌, ◌-◌, ◌*◌, ℕ, zero, suc, Bool, true, false, List, [], ◌∷◌, Option, None, Some, is_some, take, drop, length, slice_index, refl, sym, ap, ◌∙◌, subst, arith}
+use Rattle.std.proofs.Common.{◌≡◌, ◌≤◌, ◌<◌, ◌+◌, ◌-◌, ℕ, zero, suc, Bool, true, List, [], ◌∷◌, Option, None, Some, is_some, take, drop, length, slice_index, refl, sym, ap, ◌∙◌, subst, arith}
 use Rattle.elf64_exec.specs.declared.layout.Segment.{Segment}
 use Rattle.std.specs.List.{All}
-use Rattle.elf64_exec.specs.Executable.{end_of}
 use Rattle.elf64_records.specs.Records.{rela_of}
-use Rattle.elf64_records.specs.Sections.{section_bytes, sh_size}
+use Rattle.elf64_records.specs.Sections.{section_bytes}
 use Rattle.object_set.specs.declared.places.RecordId.{RecordId}
 use Rattle.object_set.specs.declared.places.SectionId.{SectionId}
 use Rattle.object_set.specs.Files.{file_at}
 use Rattle.object_set.specs.Refusals.{set_refusal}
-use Rattle.object_set.specs.Walks.{IsRecord}
 use Rattle.ppc_bytes.specs.Bytes.{number}
 use Rattle.reloc_fields.specs.declared.kind.Kind.{Kind}
 use Rattle.reloc_fields.specs.declared.kind.Kind.TheVariants as kinds
 use Rattle.reloc_fields.specs.Table.{line_of}
 use Rattle.symbol_table.specs.Fields.{kind_numbered}
-use Rattle.symbol_table.specs.Records.{records_refusal}
 use Rattle.symbol_table.specs.Text.{text_sections}
 use Rattle.symbol_table.specs.laws.Text.{text_section_at}
 use Rattle.call_sites.specs.declared.site.CallSite.{CallSite}
-use Rattle.call_sites.specs.Sites.{call_sites, linkage_in}
+use Rattle.call_sites.specs.Sites.{linkage_in}
 use Rattle.call_sites.specs.laws.SoundCalls.{call_sound}
 use Rattle.call_sites.specs.laws.TextSizes.{text_whole}
 use Rattle.toc_groups.specs.Plans.{LaidData}
 use Rattle.layout_rounds.specs.FarSets.{member}
 use Rattle.layout_rounds.specs.Layout.{PlacedText, text_end}
 use Rattle.layout_rounds.specs.Shapes.{KeyedText}
-use Rattle.image_writer.specs.Fields.{text_kind}
 use Rattle.image_writer.specs.Image.{text_image}
 use Rattle.image_writer.specs.Job.{IsJob}
-use Rattle.image_writer.specs.Places.{HoldsText, IsSpared, IsTextRecord, StandsByPlace, byte_at, bytes_of}
+use Rattle.image_writer.specs.Places.{IsSpared, IsTextRecord, StandsByPlace, byte_at, bytes_of}
 use Rattle.image_writer.specs.Rewriting.{Rewriting}
 use Rattle.image_writer.specs.Segments.{text_segment}
 use Rattle.image_writer.specs.Text.{text_section}
 use Rattle.image_writer.proofs.Fielding.{text_field}
 use Rattle.image_writer.proofs.Giving.{each_sound}
-use Rattle.pcrel_rewrite.specs.declared.text_pairs.TextPair.{TextPair}
 use Rattle.power_machine.specs.Bytes.{spelled}
 use Rattle.power_machine.specs.Codes.{word_in}
 use Rattle.power_machine.specs.Memory.{bytes_from}
 use Rattle.power_machine.specs.Start.{start_byte}
-use Rattle.plain_machine.specs.declared.place.TextPlace.{TextPlace}
 use Rattle.plain_run.specs.Images.{HoldsWords, IsBareText, place_address, with_text}
-use Rattle.plain_run.specs.Standing.{is_word, section_at, text_sizes, word_at}
 use Rattle.plain_run.proofs.BareText.{no_record}
 use Rattle.plain_run.proofs.TextWords.{size_at, word_is}
 use Rattle.link_engine.proofs.ImageRanges.{EndsBefore, text_byte}

@@ -1,5 +1,5 @@
 -- The image of a link agrees with the plain run of its job where no record is about text.
-use Rattle.std.proofs.Common.{◌≡◌, ◌≤◌, ◌<◌, ◌+◌, ◌-◌, ◌^◌, ℕ, Bool, true, List, [], ◌∷◌, ◌++◌, None, Some, length, slice_get, replicate, refl, sym, ap, ◌∙◌, subst, arith}
+use Rattle.std.proofs.Common.{◌≡◌, ◌≤◌, ◌<◌, ◌-◌, ◌^◌, ℕ, Bool, true, List, [], ◌∷◌, ◌++◌, None, Some, length, slice_get, refl, sym, ap, ◌∙◌, subst, arith}
 use Rattle.std.specs.List.{All}
 use Rattle.std.proofs.lemmas.List.{length-replicate}
 use Rattle.std.proofs.lemmas.List.Elements.{All-nil, All-cons}
@@ -8,10 +8,8 @@ use Rattle.elf64_exec.specs.Executable.{end_of}
 use Rattle.elf64_exec.specs.Loading.{Loads}
 use Rattle.elf64_records.specs.laws.First.{both_none}
 use Rattle.object_set.specs.declared.places.RecordId.{RecordId}
-use Rattle.object_set.specs.declared.places.SectionId.{SectionId}
 use Rattle.object_set.specs.Walks.{IsRecord}
 use Rattle.object_set.specs.laws.Walks.{first_of, rest_of}
-use Rattle.symbol_table.specs.declared.target.CodePlace.{CodePlace}
 use Rattle.symbol_table.specs.Targets.{entry_place}
 use Rattle.symbol_table.specs.Text.{text_sections}
 use Rattle.symbol_table.specs.laws.Targets.{entry_instruction}
@@ -22,7 +20,6 @@ use Rattle.pcrel_rewrite.specs.Pairs.{ArePairs}
 use Rattle.pcrel_rewrite.specs.declared.text_pairs.TextPair.{TextPair}
 use Rattle.toc_groups.specs.Contents.{AreDataSegments}
 use Rattle.toc_groups.specs.Plans.{LaidData}
-use Rattle.toc_groups.specs.PlacedSegments.{ArePlacedSegments, IsDataSegment}
 use Rattle.toc_groups.specs.Values.{data_overflow_at}
 use Rattle.toc_groups.proofs.DataLimits.{placed_data}
 use Rattle.toc_groups.proofs.OneImage.{one_data}
@@ -46,7 +43,6 @@ use Rattle.image_writer.proofs.Room.{places_count, start_is}
 use Rattle.image_writer.proofs.SoundJobs.{laid_job}
 use Rattle.image_writer.proofs.TextPlaces.{text_holds}
 use Rattle.power_machine.specs.Start.{start_byte, start_ranges}
-use Rattle.plain_run.specs.Agreement.{Agrees}
 use Rattle.plain_machine.specs.declared.place.TextPlace.{TextPlace}
 use Rattle.plain_run.specs.Data.{data_pointers, entry_place as place_of}
 use Rattle.plain_run.specs.Images.{HoldsPointer, IsBareImage, IsBareText, IsTextIn, place_address, with_text}
@@ -58,7 +54,7 @@ use Rattle.plain_run.proofs.TextWords.{is_word_at}
 use Rattle.link_engine.specs.Agreement.{ImageAgrees}
 use Rattle.link_engine.specs.Link.{IsImageOf, calls_of, entry_address, overflow_at, plan_of, rewriting_by, segments_of, text_of}
 use Rattle.link_engine.specs.Options.{InRange, LinkOptions}
-use Rattle.link_engine.specs.Plain.{IsUnrefused, plain_job}
+use Rattle.link_engine.specs.Plain.{plain_job}
 use Rattle.link_engine.specs.inside.Writing.{IsEntered}
 use Rattle.link_engine.specs.laws.Outcomes.{ArePassed, passed, same_layout}
 use Rattle.link_engine.proofs.FixedFields.{none_at}

@@ -1,9 +1,7 @@
 -- Where the text sections of a job lie: each in one piece, at a multiple of its alignment, apart from the others, and in the text.
-use Rattle.std.proofs.Common.{◌≡◌, ◌≤◌, ◌<◌, ◌+◌, ◌%◌, ◌^◌, ℕ, Bool, List, None, Some, slice_get, slice_index, length, sym, ap, ◌∙◌, subst, arith}
+use Rattle.std.proofs.Common.{◌≡◌, ◌≤◌, ◌<◌, ◌+◌, ◌%◌, ◌^◌, ℕ, Bool, List, None, slice_index, length, sym, ap, ◌∙◌, subst, arith}
 use Rattle.std.proofs.lemmas.List.{length-map}
 use Rattle.std.proofs.lemmas.Option.{slice_get-get_or}
-use Rattle.elf64_records.specs.Sections.{sh_size}
-use Rattle.object_set.specs.declared.places.SectionId.{SectionId}
 use Rattle.object_set.specs.Files.{file_at}
 use Rattle.object_set.specs.Refusals.{set_refusal}
 use Rattle.object_set.specs.Sections.{align_of}
@@ -26,7 +24,7 @@ use Rattle.image_writer.specs.inside.Gives.{LayoutGives}
 use Rattle.image_writer.proofs.Giving.{layout_gives}
 use Rattle.image_writer.proofs.Room.{section_count_is, start_is, text_sections_are}
 use Rattle.image_writer.proofs.Shaping.{shaped}
-use Rattle.plain_run.specs.Standing.{text_size, text_sizes}
+use Rattle.plain_run.specs.Standing.{text_sizes}
 use Rattle.plain_run.proofs.TextWords.{size_at}
 
 pub record ArePlacedTexts (files : List (List ℕ)) (start end : ℕ) (sections : List ℕ) : Type 0 where

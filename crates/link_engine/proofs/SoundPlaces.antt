@@ -1,10 +1,10 @@
 -- The places of a text that lies so have the addresses that the machine of places asks for.
-use Rattle.std.proofs.Common.{◌≡◌, ◌≢◌, ◌≤◌, ◌<◌, ◌+◌, ◌*◌, ◌/◌, ◌%◌, ◌^◌, ℕ, zero, suc, inl, inr, Bool, true, false, not, ◌||◌, ◌==◌, List, [], ◌∷◌, None, Some, slice_get, slice_index, length, nat_lt, refl, sym, ap, ◌∙◌, subst, arith}
+use Rattle.std.proofs.Common.{◌≡◌, ◌≢◌, ◌≤◌, ◌<◌, ◌+◌, ◌*◌, ◌/◌, ◌%◌, ◌^◌, ℕ, zero, suc, inl, inr, Bool, true, false, ◌||◌, ◌==◌, List, [], ◌∷◌, None, slice_index, length, nat_lt, refl, sym, ap, ◌∙◌, subst, arith}
 use Rattle.std.proofs.lemmas.Bool.{cases_lt}
 use Rattle.std.proofs.Math.Nat.{mod-lt}
 use Rattle.std.proofs.lemmas.List.{get_or_past, length-map}
 use Rattle.std.proofs.lemmas.Bool.Decides.{nat_tests}
-use Rattle.std.proofs.lemmas.Option.{slice_get-get_or, slice_get_within}
+use Rattle.std.proofs.lemmas.Option.{slice_get-get_or}
 use Rattle.std.proofs.lemmas.Nat.Gcd.{dvd_of_mod-eq-zero, dvd_trans, mod-eq-zero_of_dvd}
 use Rattle.ppc_bytes.specs.Bytes.{IsPowerOfTwo}
 use Rattle.object_set.specs.Files.{file_at}
@@ -14,10 +14,9 @@ use Rattle.symbol_table.specs.Text.{text_sections}
 use Rattle.call_sites.specs.laws.TextFacts.{text_fit}
 use Rattle.layout_rounds.proofs.Multiples.{power_divides}
 use Rattle.image_writer.specs.Text.{no_section, text_section}
-use Rattle.power_machine.specs.Machines.{sum_address}
 use Rattle.toc_groups.specs.Plans.{LaidData}
 use Rattle.plain_machine.specs.declared.place.TextPlace.{TextPlace}
-use Rattle.plain_machine.specs.Plain.{is_inside, place_ahead}
+use Rattle.plain_machine.specs.Plain.{is_inside}
 use Rattle.plain_machine.specs.laws.Meaning.{IsSound}
 use Rattle.plain_run.specs.Images.{place_address}
 use Rattle.plain_run.specs.Places.{may_cross}

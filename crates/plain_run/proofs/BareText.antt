@@ -1,5 +1,5 @@
 -- Where no field of a record has bytes of text, each word of it is the file's own.
-use Rattle.std.proofs.Common.{◌≡◌, ◌≤◌, ◌<◌, ◌/◌, ◌*◌, ℕ, Bool, true, false, List, [], ◌∷◌, length, None, Some, slice_get, sym, ap, ◌∙◌, refl, nat_le, arith, if◌then◌else◌}
+use Rattle.std.proofs.Common.{◌≡◌, ◌<◌, ◌/◌, ℕ, Bool, true, false, List, length, None, Some, slice_get, sym, ap, ◌∙◌, refl, nat_le, arith, if◌then◌else◌}
 use Rattle.std.proofs.lemmas.Bool.Decides.{nat_tests}
 use Rattle.elf64_records.specs.Records.{rela_of}
 use Rattle.object_set.specs.declared.places.RecordId.{RecordId}
@@ -15,7 +15,6 @@ use Rattle.symbol_table.specs.Records.{records_refusal}
 use Rattle.symbol_table.specs.declared.fields.RecordField.{RecordField}
 use Rattle.pcrel_rewrite.specs.declared.text_pairs.TextPair.{TextPair}
 use Rattle.pcrel_rewrite.specs.Pairs.{ArePairs}
-use Rattle.pcrel_rewrite.specs.TextPairs.{head_at}
 use Rattle.plain_machine.specs.declared.place.TextPlace.{TextPlace}
 use Rattle.plain_run.specs.declared.standing.Standing.TheVariants as standing
 use Rattle.plain_run.specs.Images.{IsBareText}

@@ -1,41 +1,38 @@
 -- Where no relocation record is about text, an image goes step by step with the plain run of its job.
-use Rattle.std.proofs.Common.{◌≡◌, ◌≢◌, ◌≤◌, ◌<◌, ◌+◌, ◌*◌, ◌%◌, ℕ, zero, suc, Bool, true, false, not, ◌&&◌, ◌||◌, List, [], ◌∷◌, ◌++◌, map, Option, Some, None, refl, sym, ap, ◌∙◌, subst, arith, slice_index, if◌then◌else◌}
+use Rattle.std.proofs.Common.{◌≡◌, ◌≤◌, ◌<◌, ◌+◌, ◌*◌, ℕ, zero, suc, Bool, true, false, not, ◌&&◌, ◌||◌, List, [], ◌∷◌, ◌++◌, map, Option, Some, None, refl, sym, ap, ◌∙◌, subst, arith, slice_index, if◌then◌else◌}
 use Rattle.std.specs.List.{list_any}
 use Rattle.std.proofs.lemmas.Bool.{and_parts}
 use Rattle.elf64_exec.specs.declared.layout.Segment.{Segment}
 use Rattle.elf64_exec.specs.Executable.{end_of}
-use Rattle.power_insns.specs.declared.instruction.Insn.{Insn}
 use Rattle.power_insns.specs.Operations.{operation_of}
-use Rattle.prefixed_insns.specs.declared.instruction.PInsn.{PInsn}
 use Rattle.prefixed_insns.specs.Meaning.{operation_of_pair}
 use Rattle.power_insns.specs.declared.meaning.Operation.{Operation}
 use Rattle.power_machine.specs.declared.code.Code.{Code}
 use Rattle.power_machine.specs.declared.code.Code.TheVariants as code
 use Rattle.power_machine.specs.declared.memory.Purpose.{Purpose}
 use Rattle.power_machine.specs.Bytes.{spelled}
-use Rattle.power_machine.specs.Calls.{Run}
 use Rattle.power_machine.specs.Codes.{HasNoWord, HasSecond, IsOneWord, IsTwoWords, Stands, is_executable, word_in}
 use Rattle.power_machine.specs.Machines.{Next, Went, Left, sum_address}
-use Rattle.power_machine.specs.Memory.{Permission, Range, bytes_from, holds, within}
+use Rattle.power_machine.specs.Memory.{Range, bytes_from, holds, within}
 use Rattle.power_machine.specs.Numbers.{numbers}
 use Rattle.power_machine.specs.Runs.{Continues, StepsFrom, operates}
 use Rattle.power_machine.specs.Start.{segment_range, stack_range, start_byte, start_ranges}
 use Rattle.power_machine.specs.Steps.{NumberRun, IsStep as IsNumberStep}
 use Rattle.power_machine.specs.laws.Calls.{operates_simulated}
-use Rattle.power_machine.specs.laws.Induction.{Follows, Steps as ManySteps, both_bounds}
+use Rattle.power_machine.specs.laws.Induction.{Steps as ManySteps, both_bounds}
 use Rattle.power_machine.specs.laws.Related.{AllowsMore, MatchRuns, Pairwise, Simulated}
 use Rattle.power_machine.specs.laws.Simulation.{pairwise_registers, unconfined, went_simulated}
 use Rattle.plain_machine.specs.declared.action.Action.{Action}
 use Rattle.plain_machine.specs.declared.action.Effect.TheVariants as effect
 use Rattle.plain_machine.specs.declared.place.TextPlace.{TextPlace}
-use Rattle.plain_machine.specs.Actions.{PlainRun, after_needs, guarded, is_store, meets, performed}
+use Rattle.plain_machine.specs.Actions.{PlainRun, after_needs, is_store, meets, performed}
 use Rattle.plain_machine.specs.Plain.{place_ahead, places}
-use Rattle.plain_machine.specs.laws.Meaning.{IsSound, MeansBit, MeansPlace}
+use Rattle.plain_machine.specs.laws.Meaning.{MeansBit, MeansPlace}
 use Rattle.plain_run.specs.declared.standing.Standing.{Standing}
 use Rattle.plain_run.specs.declared.standing.Standing.TheVariants as standing
 use Rattle.plain_run.specs.Agreement.{job_may}
-use Rattle.plain_run.specs.Effects.{IsDone, IsWordCode, code_action, does}
-use Rattle.plain_run.specs.Images.{HoldsWords, IsBareImage, SharesMemory, place_address, with_text}
+use Rattle.plain_run.specs.Effects.{code_action, does}
+use Rattle.plain_run.specs.Images.{IsBareImage, SharesMemory, place_address, with_text}
 use Rattle.plain_run.specs.Jobs.{PlainJob}
 use Rattle.plain_run.specs.Places.{IsOwnCode, IsStandingAction, has_second, may_cross, toc_ranges}
 use Rattle.plain_run.specs.Runs.{IsStep}

@@ -1,5 +1,5 @@
 -- Loads and stores that touch no text leave the memory of a plain run and that of an image alike.
-use Rattle.std.proofs.Common.{◌≡◌, ◌≤◌, ◌<◌, ◌+◌, ◌-◌, ℕ, zero, suc, Bool, true, false, ◌&&◌, cond, List, [], ◌∷◌, length, map, take, min, inl, inr, refl, sym, ap, ◌∙◌, subst, arith, nat_le, nat_lt}
+use Rattle.std.proofs.Common.{◌≡◌, ◌≤◌, ◌<◌, ◌+◌, ◌-◌, ℕ, zero, suc, Bool, true, false, ◌&&◌, cond, List, length, map, take, inl, inr, refl, ◌∙◌, subst, arith, nat_le, nat_lt}
 use Rattle.std.specs.Prelude.{slice_index_or}
 use Rattle.std.proofs.lemmas.Bool.{and_parts}
 use Rattle.std.proofs.lemmas.Bool.Decides.{nat_tests}
@@ -14,7 +14,6 @@ use Rattle.power_machine.specs.Memory.{Permission, bytes_from, put}
 use Rattle.power_machine.specs.Numbers.{numbers}
 use Rattle.power_machine.specs.laws.Pairwise.{choice_related, pairwise_at, pairwise_length, pairwise_map}
 use Rattle.power_machine.specs.laws.Related.{Memories, Pairwise, Related}
-use Rattle.plain_machine.specs.declared.place.TextPlace.{TextPlace}
 use Rattle.plain_machine.specs.declared.value.Cell.{Cell}
 use Rattle.plain_machine.specs.declared.value.Cell.TheVariants as cell
 use Rattle.plain_machine.specs.declared.value.PlainValue.{PlainValue}

@@ -1,5 +1,5 @@
 -- At its start an image stands as the plain run of its job does, and so it agrees with that.
-use Rattle.std.proofs.Common.{◌≡◌, ◌≤◌, ◌<◌, ◌+◌, ◌-◌, ◌*◌, ℕ, zero, suc, Bool, true, false, ◌&&◌, cond, List, [], ◌∷◌, length, inl, inr, replicate, Option, Some, None, refl, sym, ap, ◌∙◌, subst, arith, nat_le, nat_lt, if◌then◌else◌, slice_index}
+use Rattle.std.proofs.Common.{◌≡◌, ◌≤◌, ◌<◌, ◌+◌, ◌-◌, ℕ, zero, suc, Bool, true, false, ◌&&◌, cond, List, [], ◌∷◌, length, inl, inr, replicate, Some, refl, sym, ap, subst, arith, nat_le, nat_lt, if◌then◌else◌, slice_index}
 use Rattle.std.specs.Prelude.{fold, slice_index_or, slice_set}
 use Rattle.std.specs.List.{All}
 use Rattle.std.proofs.lemmas.Bool.{and_parts}
@@ -10,22 +10,18 @@ use Rattle.elf64_exec.specs.Loading.{Loads}
 use Rattle.object_set.specs.laws.Walks.{first_of, rest_of}
 use Rattle.power_machine.specs.declared.world.Answer.{Answer}
 use Rattle.power_machine.specs.Memory.{bytes_from, put}
-use Rattle.power_machine.specs.Runs.{begun}
-use Rattle.power_machine.specs.Start.{RunsTo, start_byte, start_ranges, start_run}
-use Rattle.power_machine.specs.Steps.{NumberRun, IsStep as IsNumberStep, ReachesIn as ReachesNumbers}
+use Rattle.power_machine.specs.Start.{start_byte, start_ranges, start_run}
+use Rattle.power_machine.specs.Steps.{IsStep as IsNumberStep}
 use Rattle.power_machine.specs.laws.Pairwise.{pairwise_set}
 use Rattle.power_machine.specs.laws.Related.{Pairwise}
 use Rattle.power_machine.specs.laws.Runs.{reached_steps, steps_reach}
 use Rattle.symbol_table.specs.declared.target.CodePlace.{CodePlace}
 use Rattle.plain_machine.specs.declared.pointer.PlacedPointer.{PlacedPointer}
-use Rattle.plain_machine.specs.declared.value.Cell.{Cell}
-use Rattle.plain_machine.specs.declared.value.Cell.TheVariants as cell
 use Rattle.plain_machine.specs.declared.value.PlainValue.TheVariants.{Number, Code}
-use Rattle.plain_machine.specs.Actions.{PlainRun}
 use Rattle.plain_machine.specs.Plain.{PlainState}
 use Rattle.plain_machine.specs.Start.{held_state, pointer_cells, start_state}
 use Rattle.plain_machine.specs.laws.Meaning.{MeansBit}
-use Rattle.plain_run.specs.Agreement.{Agrees, HasDone, job_begun, job_may}
+use Rattle.plain_run.specs.Agreement.{Agrees, job_begun, job_may}
 use Rattle.plain_run.specs.Data.{data_pointers, entry_place, plain_start}
 use Rattle.plain_run.specs.Images.{HoldsPointer, IsBareImage, IsOutside, MeansByte, SharesMemory, place_address, with_text}
 use Rattle.plain_run.specs.Jobs.{PlainJob}
