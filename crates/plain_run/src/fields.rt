@@ -120,7 +120,8 @@ impl<'p, 'a, 'b> PlainText<'p, 'a, 'b> {
         value_of(kind, source, rela.addend, p.offset, base)
     }
 
-    /// The same as what a half is of.
+    /// Where a part of an address goes that is this value: a byte of the table of contents, a place, or elsewhere, which is any other number
+    /// and what isn't known.
     fn part_target(&self, value: PlainValue) -> PartTarget
         ensures { result ≡ goal_of self.now.files self.now.plan value }
     {
