@@ -525,29 +525,28 @@ kind_case : (kind : Kind) (b : Bool) → is_some (linkage_of kind) ≡ false →
 kind_case kind true call is fills = absurd (let zero : (line_of kind).width ≡ 0 = grind (arith, nat_tests, is) in omega (arith, zero))
 kind_case kind false call is fills = ap (λ (b : Bool). if b then None else Some kind) call
 
--- where none of all records is told, none is of one
-pub none_at : (files : List (List ℕ)) (at : RecordId → Option Refusal) (r : RecordId) → first_in at (all_items record_walk files) ≡ None → IsRecord files r →
-    at r ≡ None
-none_at files at r all here =
-    let b = file_at files r.file in
-    let own : record_id r.file b r.table r.entry ≡ r =
-    ap (λ (s : ℕ). record { file = r.file; table = r.table; entry = r.entry; section = s }) (sym here.section_is) in
-    let file = here.file_in in
-    let table_in = here.table_in in
-    let entry = here.within in
-    let in_file = walk_none (first_of_file files at) 0 (length files) r.file (sym (first_of_records files at) ∙ all) (omega arith)
-    (omega (arith, file)) in
-    let in_table = walk_none (first_of_table files at r.file) 0 (e_shnum b) r.table in_file (omega arith) (omega (arith, table_in)) in
-    let in_entry = walk_none (λ k. at (record_id r.file b r.table k)) 0 (record_count b r.table) r.entry in_table (omega arith)
-    (omega (arith, entry)) in
-    sym (ap at own) ∙ in_entry
-
 -- ---- all of them
 
 module _ (files : List (List ℕ)) (plan : LaidData) (is : IsPlan files plan.span plan) (whole : set_refusal files ≡ None)
     (none : records_refusal files ≡ None) (text : List ℕ) (pairs : List TextPair)
     (fits : overflow files plan.span text (rewriting_of files plan.span pairs) ≡ None) (low : (k : ℕ) → slice_index text k < 2 ^ 32)
     (table : (check : Check) (x : ℤ) → (passes check x ≡ true) ↔ Passes check x) where
+  none_at : (at : RecordId → Option Refusal) (r : RecordId) → first_in at (all_items record_walk files) ≡ None → IsRecord files r →
+      at r ≡ None
+  none_at at r all here =
+      let b = file_at files r.file in
+      let own : record_id r.file b r.table r.entry ≡ r =
+      ap (λ (s : ℕ). record { file = r.file; table = r.table; entry = r.entry; section = s }) (sym here.section_is) in
+      let file = here.file_in in
+      let table_in = here.table_in in
+      let entry = here.within in
+      let in_file = walk_none (first_of_file files at) 0 (length files) r.file (sym (first_of_records files at) ∙ all) (omega arith)
+      (omega (arith, file)) in
+      let in_table = walk_none (first_of_table files at r.file) 0 (e_shnum b) r.table in_file (omega arith) (omega (arith, table_in)) in
+      let in_entry = walk_none (λ k. at (record_id r.file b r.table k)) 0 (record_count b r.table) r.entry in_table (omega arith)
+      (omega (arith, entry)) in
+      sym (ap at own) ∙ in_entry
+
   -- it does so in this text, and with it wherever text lies
   holds_as : (p : TextPlace) (r : RecordId) (kind : Kind) → IsFieldAt files p r kind → role_at files plan p r kind ≡ role.Fixed →
       (rule_of kind).stand ≡ InText →
@@ -568,7 +567,7 @@ module _ (files : List (List ℕ)) (plan : LaidData) (is : IsPlan files plan.spa
       ∙ ap (word_in b r.section) (sym at.offset_is) in
       let record_fits = both_none (data_overflow_at files plan.span text r)
       (text_overflow_at files plan.span text (rewriting_of files plan.span pairs) r)
-      (none_at files (overflow_at files plan.span text (rewriting_of files plan.span pairs)) r fits here) in
+      (none_at (overflow_at files plan.span text (rewriting_of files plan.span pairs)) r fits here) in
       let stays = not_folded files plan is whole none r kind here at.kind_is text (run_word files p)
       (is_folded_load (toc_record files plan.span text (slot_records (laid_by files plan.span)) r kind)) word fixed refl in
       let passed = told_case files plan is whole none r kind here at.kind_is text pairs

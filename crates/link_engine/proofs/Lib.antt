@@ -9,8 +9,3 @@ pub mod OneAction
 pub mod OneRun
 pub mod FixedFields
 pub mod PlainEnds
-pub mod JobTexts
-pub mod SoundPlaces
-pub mod ImageRanges
-pub mod ImageWords
-pub mod ImagesAgree

@@ -2,6 +2,5 @@ pub mod Options
 pub mod Link
 pub mod Plain
 pub mod Texts
-pub mod Agreement
 pub mod inside
 pub mod laws

@@ -1,9 +1,7 @@
 // Files become an executable.
 ghost use Rattle.std.specs.Prelude.{◌≡◌, ◌⊎◌, ◌+◌, ◌≤◌, ◌<◌, ◌^◌, length, Err, IfOk, IfErr};
 ghost use Rattle.object_set.specs.Files.{contents_of};
-ghost use Rattle.plain_run.specs.Images.{IsBareText};
 ghost use Rattle.link_engine.specs.Options.{InRange};
-ghost use Rattle.link_engine.specs.Agreement.{ImageAgrees};
 ghost use Rattle.link_engine.specs.Link.{LinksTo, IsLinked, placement_limit};
 ghost use Rattle.link_engine.specs.inside.Writing.{IsResolved, IsWholeJob, address_of};
 
@@ -37,11 +35,8 @@ fn write_image(
     job: WholeJob,
 ) -> Result<Linked, Memory>
     requires resolved { IsResolved res.now options.now }
-    requires range { InRange options.now }
     requires whole { IsWholeJob res.now.files options.now job }
     ensures linked { IfOk result (IsLinked res.now.files options.now) }
-    ensures agree { IfOk result (λ linked.
-        IsBareText res.now.files → ImageAgrees res.now.files options.now linked.image.items) }
 {
     // none of the files is refused
     let _files = res.set().file_count();
@@ -63,8 +58,7 @@ fn write_image(
 /// entry, and of a relocation record; of data that is too big, of text that is, and of a call without a place to restore r2; of laid out
 /// text that is too big, and of a call that doesn't reach its stub; of a field that doesn't hold its value. Else the image is the
 /// executable of the files' data and text, which is entered at the global entry point of what the entry's name stands for (ELFv2 ABI,
-/// "Symbol Values"). Where no relocation record is about text, the image does what the files' plain run does, in every world and for as
-/// long as that run doesn't leave: it makes the same system calls with the same bytes, and ends with the same status or not at all.
+/// "Symbol Values").
 pub fn link<L: Ledger>(
     alloc: Global,
     files: &[FileBytes],
@@ -77,8 +71,6 @@ pub fn link<L: Ledger>(
     ensures refused { IfErr result (λ r.
         (r ≡ Refusal.Memory) ⊎ LinksTo (contents_of files.now) options.now (Err r)) }
     ensures linked { IfOk result (IsLinked (contents_of files.now) options.now) }
-    ensures agree { IfOk result (λ linked. IsBareText (contents_of files.now) →
-        ImageAgrees (contents_of files.now) options.now linked.image.items) }
     ensures steps { steps.new
         ≤ steps.old + placement_limit (contents_of files.now) options.now }
 {

@@ -27,14 +27,14 @@ pub struct FullCall {
     /// Whether the call comes back.
     pub link: bool,
 
-    /// Whether the callee is entered with its own address in r12, which is lost otherwise.
+    /// Whether the callee is entered with its own address in r12.
     pub enters: bool,
 
     /// The caller's TOC base, where it is saved at 24(r1) for the restore behind the call.
     pub saves: Option<u64>,
 }
 
-/// What a step does, or why it can't be made. Its own reasons to leave come before those of what the step needs.
+/// What a step does, where it leaves nothing undone.
 #[derive(Clone, Copy)]
 pub enum Effect {
     /// It can't be made.
@@ -53,13 +53,13 @@ pub enum Effect {
         value: PlainValue,
     },
 
-    /// The access of a recognised pair, through the address in a register, which is lost unless the access loads that register.
+    /// The access of a recognised pair, through the address in a register. No later instruction may use that.
     Access {
         operation: Operation,
         through: u32,
     },
 
-    /// The second instruction of a recognised prologue: r2 gets the TOC base, and r12 is lost.
+    /// The second instruction of a recognised prologue: r2 gets the TOC base, and r12 may have been used.
     Enter {
         base: u64,
     },
@@ -67,7 +67,7 @@ pub enum Effect {
     /// A call.
     Call(FullCall),
 
-    /// The restore behind a call: r2 gets the TOC base, where 24(r1) holds what the call at the site saved, or the base.
+    /// The restore behind a call: r2 gets the TOC base that was saved.
     Restore {
         site: TextPlace,
         base: u64,

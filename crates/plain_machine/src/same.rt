@@ -55,7 +55,7 @@ fn same_part(a: Part, b: Part) -> bool
     }
 }
 
-/// Whether two values are known to be the same, or, of two parts of addresses, whether the one may stand for the other.
+/// Whether two values are known to be the same.
 pub fn same_value(a: PlainValue, b: PlainValue) -> bool
     ensures { result ≡ same_value a b }
 {

@@ -322,7 +322,7 @@ module _ (files : List (List ℕ)) (whole : set_refusal files ≡ None) (none : 
       omega (arith, within, small)
 
   -- a word that a record meets lies in its section
-  pub meets_within : (r : RecordId) (k w : ℕ) → Meets files r k w → 4 * w < sh_size (file_at files r.file) r.section
+  meets_within : (r : RecordId) (k w : ℕ) → Meets files r k w → 4 * w < sh_size (file_at files r.file) r.section
   meets_within r k w met =
       let sound = sound_field files r none met.field.here met.kind met.field.kind_is met.field.fills in
       let within = sound.within in

@@ -102,7 +102,7 @@ none_positive [] k none some = omega (arith, some)
 none_positive (x ∷ xs) zero none some = cc
 none_positive (x ∷ xs) (suc k) none some = none_positive xs k none some
 
-pub size_at : (files : List (List ℕ)) (k : ℕ) (s : SectionId) → slice_get (text_sections files) k ≡ Some s →
+size_at : (files : List (List ℕ)) (k : ℕ) (s : SectionId) → slice_get (text_sections files) k ≡ Some s →
     slice_index (text_sizes files) k ≡ text_size files s
 size_at files k s found =
     get_or_from_slice_get (text_sizes files) k (text_size files s) 0

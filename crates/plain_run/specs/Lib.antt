@@ -6,7 +6,4 @@ pub mod Data
 pub mod Jobs
 pub mod Running
 pub mod Runs
-pub mod Images
-pub mod Agreement
 pub mod inside
-pub mod laws

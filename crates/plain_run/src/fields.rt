@@ -120,8 +120,7 @@ impl<'p, 'a, 'b> PlainText<'p, 'a, 'b> {
         value_of(kind, source, rela.addend, p.offset, base)
     }
 
-    /// Where a part of an address goes that is this value: a byte of the table of contents, a place, or elsewhere, which is any other number
-    /// and what isn't known.
+    /// The same as what a half is of.
     fn part_target(&self, value: PlainValue) -> PartTarget
         ensures { result ≡ goal_of self.now.files self.now.plan value }
     {

@@ -14,7 +14,7 @@ pub enum Standing {
     /// A word that is the file's own: no record's field has bytes of it.
     Word,
 
-    /// A word of which the fields of records have bytes, where these aren't one field that begins with the word.
+    /// A word of which a record's field has bytes, but doesn't begin with it alone.
     Touched,
 
     /// A call.

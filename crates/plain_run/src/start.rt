@@ -91,8 +91,7 @@ fn start_machine(
 }
 
 impl<'p, 'a, 'b> Plain<'p, 'a, 'b> {
-    /// A job at the start of its plain run. Its data has these segments for some addresses of text; what depends on those is put over them, as
-    /// places.
+    /// A job at the start of its plain run, where its data has these segments wherever text lies.
     pub fn start(
         alloc: Global,
         res: &'p Resolved<'a, 'b>,

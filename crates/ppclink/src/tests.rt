@@ -5,13 +5,11 @@ ghost use Rattle.std.specs.Prelude.{◌≡◌, ◌<◌};
 
 mod checking;
 mod computing;
-mod devices;
 mod files;
 mod leaving;
 mod libraries;
 mod linking;
 mod listings;
-mod lying;
 mod objects;
 mod running;
 mod showing;

@@ -29,7 +29,6 @@ use Rattle.link_engine.specs.Link.{plan_of, calls_of, early_refusal, IsLaidOut, 
 -- files that aren't refused before their text is laid out
 pub record ArePassed (files : List (List ℕ)) (options : LinkOptions) : Type 0 where
   pub whole : set_refusal files ≡ None
-  pub entry : entry_refusal files options.entry ≡ None
   pub records : records_refusal files ≡ None
   pub fits : data_refusal files options.toc_span ≡ None
   pub calls : sites_refusal files (plan_of files options).groups ≡ None
@@ -45,7 +44,6 @@ passed files options none =
     let last = both_none pieces calls second.1 in
     record {
       whole = first.0;
-      entry = (both_none (entry_refusal files entry) (records_refusal files) names.1).0;
       records = (both_none (entry_refusal files entry) (records_refusal files) names.1).1;
       fits = last.0;
       calls = last.1;

@@ -5,8 +5,6 @@ use Rattle.image_writer.specs.Segments.{TakeText, image_segments}
 use Rattle.image_writer.specs.Rewriting.{rewriting_of}
 use Rattle.link_engine.specs.inside.Writing.{address_of}
 use Rattle.link_engine.proofs.Entered.{entered, entry_in}
-use Rattle.link_engine.proofs.ImagesAgree.{image_agrees}
-use Rattle.link_engine.proofs.JobTexts.{few_texts}
 use Rattle.link_engine.proofs.LaidOut.{calls_count, folds_count, gives}
 use Rattle.link_engine.proofs.LoadedImages.{written}
 use Rattle.link_engine.proofs.engine.write_image.Goals as goal
@@ -46,7 +44,7 @@ segments-requires-clause-some c =
     c.text_is_placed.ensures.placed (entered c.args.res.now c.args.options.now c.requires.resolved) in
     omega (arith, inside.from, inside.below, c.requires.whole.text_size)
 
--- the image, which loads as what was written, what was counted, and that the image does what the plain run does
+-- the image, which loads as what was written, and what was counted
 pub returns : goal.returns
 returns c =
     let files = c.args.res.now.files in
@@ -80,6 +78,4 @@ returns c =
         stub_bytes = c.stub_bytes.ensures;
         folds = c.count-3.ensures ∙ folds_count files options plan job.calls text job.pairs is.laid job.folds is.folds_are;
       };
-      agree = λ bare. image_agrees files options text c.in_ok-write_exec.field-0.items c.requires.range
-          (few_texts files plan job.calls settled.keyed settled.far settled.places whole is.stands) image.is image.loads bare;
     }
